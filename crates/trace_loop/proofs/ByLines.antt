@@ -41,15 +41,14 @@ use Rattle.trace_loop.specs.Progress.{
   opened,
   told,
   answered,
-  closed,
+  heard,
   after_bytes,
   ran,
   finished,
-  finished_by,
 }
 use Rattle.trace_loop.specs.ByLines.{lines_of, without_empty_last, line_told, ran_lines, EndsLong}
 use Rattle.trace_loop.specs.Cut.{HasNoEnd}
-use Rattle.trace_loop.proofs.Progresses.{after-ended, heard-by, limit_least}
+use Rattle.trace_loop.proofs.Progresses.{closed-some, heard-by, limit_least, replay-ended}
 
 -- parts, cut by the end of a line
 abbrev parts_of : List ℕ → List (List ℕ)
@@ -143,11 +142,12 @@ module _ (A E : Type 0) (answer : ℕ → A → List ℕ → Answer A E) (closin
   last_line : (text : List ℕ) (s : Progress A E) → s.text ≡ text → s.end ≡ None → HasNoEnd text → finished answer closing s
       ≡ ran_lines answer closing (lines_of text) (record s { text = [] })
   unfolding lines_of
-  last_line [] s is going none = ap (λ (o : Option E). finished_by answer closing o s) going
-      ∙ ap (λ (l : List ℕ). (let t = closed answer l s in ran closing t.end t)) is ∙ ap (λ (l : List ℕ). ran closing s.end (record s { text = l })) is
+  last_line [] s is going none =
+      ap (λ (l : List ℕ). (let t = cond (eqb (length l) 0) s (heard answer s.end 10 s) in ran closing t.end t)) is
+      ∙ ap (λ (l : List ℕ). ran closing s.end (record s { text = l })) is
   last_line (b ∷ bs) s is going none =
-      ap (λ (o : Option E). finished_by answer closing o s) going
-      ∙ ap (λ (l : List ℕ). (let t = closed answer l s in ran closing t.end t)) is
+      ap (λ (t : Progress A E). ran closing t.end t) (closed-some A E answer closing b bs s is)
+      ∙ ap (λ (o : Option E). (let t = heard answer o 10 s in ran closing t.end t)) going
       ∙ ap (λ (l : List ℕ). (let t = answered answer (record s { text = l }) in ran closing t.end t)) is
       ∙ first_told (b ∷ bs) [] (b ∷ bs) s going (lines-last (b ∷ bs) (omega arith) none)
 
@@ -158,7 +158,7 @@ module _ (A E : Type 0) (answer : ℕ → A → List ℕ → Answer A E) (closin
     where
       by_answer : (x : Answer A E) → finished answer closing (after_bytes answer bs (told x s)) ≡ ran_lines answer closing (lines_of bs) (told x s)
       by_answer (Goes block a) = later (told (Goes block a) s) refl refl
-      by_answer (Ends r) = ap (finished answer closing) (after-ended A E answer closing bs (told (Ends r) s) r.end refl)
+      by_answer (Ends r) = replay-ended A E answer closing [] bs (told (Ends r) s) r.end refl
           ∙ sym (lines-ended (lines_of bs) (told (Ends r) s) r.end refl)
 
   -- what ends a line that is too long
@@ -196,7 +196,7 @@ module _ (A E : Type 0) (answer : ℕ → A → List ℕ → Answer A E) (closin
           ap (answer s.line s.state) (sym (append-nil grown.text)) ∙ long_ends.ends s.line s.state grown.text [] long in
           let ended_ : answered answer grown ≡ told (Ends (excess grown.text s)) grown = ap (λ (x : Answer A E). told x grown) answer_ in
           ap (λ (t : Progress A E). finished answer closing (after_bytes answer bs t)) ended_
-          ∙ ap (finished answer closing) (after-ended A E answer closing bs (told (Ends (excess grown.text s)) grown) (excess grown.text s).end refl)
+          ∙ replay-ended A E answer closing [] bs (told (Ends (excess grown.text s)) grown) (excess grown.text s).end refl
           ∙ too_long grown.text bs s going (HasNoEnd-push s.text b none other) long
           ∙ ap (λ (l : List ℕ). ran_lines answer closing (lines_of l) (record s { text = [] })) bytes
       by_over false over other =

@@ -4,7 +4,8 @@ use Rattle.std.specs.Io.KnownBytes.{Appends}
 use Rattle.std.proofs.KnownBytes.{Appends-trans}
 use Rattle.board_io.specs.Faults.{Rose}
 use Rattle.trace_loop.specs.Text.{source_fault_text, memory_fault_text}
-use Rattle.trace_loop.specs.Progress.{Closing, Answer, Progress, printed, end_of, state_after, standing, opened, after_bytes, finished}
+use Rattle.trace_loop.specs.Answered.{printed, end_of, state_after}
+use Rattle.trace_loop.specs.Progress.{Closing, Answer, Progress, standing, opened, after_bytes, finished}
 use Rattle.trace_loop.specs.Cut.{Cut, IsLine, IsWhole}
 use Rattle.trace_loop.specs.Outcome.{Begins, run_over, Outcome, Said}
 use Rattle.trace_loop.specs.private.Going.{BothEnds, source_of, IsAsked, Stands, IsGoing, IsOver}

@@ -40,6 +40,7 @@ use Rattle.std.proofs.KnownBytes.{Appends-trans}
 use Rattle.std.proofs.lemmas.List.{take_all, take-append-le}
 use Rattle.board_io.specs.Faults.{Rose}
 use Rattle.trace_loop.specs.Text.{source_fault_text, memory_fault_text}
+use Rattle.trace_loop.specs.Answered.{printed, end_of, state_after}
 use Rattle.trace_loop.specs.Progress.{
   limit_of,
   Closing,
@@ -49,9 +50,6 @@ use Rattle.trace_loop.specs.Progress.{
   Progress,
   opened,
   standing,
-  printed,
-  end_of,
-  state_after,
   told,
   answered,
   after_bytes,

@@ -50,12 +50,11 @@ use Rattle.trace_loop.specs.Progress.{
   told,
   answered,
   checked,
-  heard_until,
+  heard,
   after_bytes,
   closed,
   ran,
   finished,
-  finished_by,
 }
 use Rattle.trace_loop.specs.Cut.{HasNoEnd}
 
@@ -104,29 +103,29 @@ module _ (A E : Type 0) (answer : ℕ → A → List ℕ → Answer A E) (closin
   -- bytes, and bytes after them
   pub after-++ : (xs ys : List ℕ) (s : Progress A E) → after_bytes answer (xs ++ ys) s ≡ after_bytes answer ys (after_bytes answer xs s)
   after-++ [] ys s = refl
-  after-++ (x ∷ xs) ys s = after-++ xs ys (heard_until answer s.end x s)
+  after-++ (x ∷ xs) ys s = after-++ xs ys (heard answer s.end x s)
 
   -- an ended trace stays as it is
   pub after-ended : (bs : List ℕ) (s : Progress A E) (status : E) → s.end ≡ Some status → after_bytes answer bs s ≡ s
   after-ended [] s status e = refl
   after-ended (b ∷ bs) s status e =
-      let same : heard_until answer s.end b s ≡ s = ap (λ (o : Option E). heard_until answer o b s) e in
+      let same : heard answer s.end b s ≡ s = ap (λ (o : Option E). heard answer o b s) e in
       ap (after_bytes answer bs) same ∙ after-ended bs s status e
 
   -- a byte, by whether it is a line's end
-  pub heard-by : (b : ℕ) (s : Progress A E) (t : Bool) → s.end ≡ None → eqb b 10 ≡ t → heard_until answer s.end b s
+  pub heard-by : (b : ℕ) (s : Progress A E) (t : Bool) → s.end ≡ None → eqb b 10 ≡ t → heard answer s.end b s
       ≡ cond t (answered answer s) (checked answer (record s { text = s.text ++ b ∷ [] }))
-  heard-by b s t e is = ap (λ (o : Option E). heard_until answer o b s) e
+  heard-by b s t e is = ap (λ (o : Option E). heard answer o b s) e
       ∙ ap (λ (c : Bool). cond c (answered answer s) (checked answer (record s { text = s.text ++ b ∷ [] }))) is
 
   -- another byte, by whether it is over the line's limit
   heard-other : (b : ℕ) (s : Progress A E) (t : Bool) → s.end ≡ None → b ≢ 10 → ltb (limit_of (s.text ++ b ∷ [])) (length (s.text ++ b ∷ [])) ≡ t
-      → heard_until answer s.end b s ≡ cond t (answered answer (record s { text = s.text ++ b ∷ [] })) (record s { text = s.text ++ b ∷ [] })
+      → heard answer s.end b s ≡ cond t (answered answer (record s { text = s.text ++ b ∷ [] })) (record s { text = s.text ++ b ∷ [] })
   heard-other b s t e other is = heard-by b s false e (ne_eqb b 10 other)
       ∙ ap (λ (c : Bool). cond c (answered answer (record s { text = s.text ++ b ∷ [] })) (record s { text = s.text ++ b ∷ [] })) is
 
   -- a byte of a line
-  heard-byte : (b : ℕ) (s : Progress A E) → s.end ≡ None → b ≢ 10 → length (s.text ++ b ∷ []) ≤ limit_of (s.text ++ b ∷ []) → heard_until answer s.end b s
+  heard-byte : (b : ℕ) (s : Progress A E) → s.end ≡ None → b ≢ 10 → length (s.text ++ b ∷ []) ≤ limit_of (s.text ++ b ∷ []) → heard answer s.end b s
       ≡ record s { text = s.text ++ b ∷ [] }
   heard-byte b s e other short = heard-other b s false e other (le-ltb (limit_of (s.text ++ b ∷ [])) (length (s.text ++ b ∷ [])) short)
 
@@ -146,7 +145,7 @@ module _ (A E : Type 0) (answer : ℕ → A → List ℕ → Answer A E) (closin
       → after_bytes answer (bs ++ 10 ∷ []) s ≡ answered answer (record s { text = s.text ++ bs })
   after-line bs s e none short =
       after-++ bs (10 ∷ []) s ∙ ap (after_bytes answer (10 ∷ [])) (after-bytes bs s e none short)
-      ∙ ap (λ (o : Option E). heard_until answer o 10 (record s { text = s.text ++ bs })) e
+      ∙ ap (λ (o : Option E). heard answer o 10 (record s { text = s.text ++ bs })) e
 
   -- a line that is one byte too long
   pub after-excess : (bs : List ℕ) (s : Progress A E) → s.end ≡ None → HasNoEnd bs → length s.text ≤ limit_of s.text → length (s.text ++ bs)
@@ -180,7 +179,7 @@ module _ (A E : Type 0) (answer : ℕ → A → List ℕ → Answer A E) (closin
   either-starts true front x y p q = p
   either-starts false front x y p q = q
 
-  heard-starts : (o : Option E) (b : ℕ) (s : Progress A E) → Starts s.printed (heard_until answer o b s).printed
+  heard-starts : (o : Option E) (b : ℕ) (s : Progress A E) → Starts s.printed (heard answer o b s).printed
   heard-starts (Some status) b s = starts-refl s.printed
   heard-starts None b s =
       let t : Progress A E = record s { text = s.text ++ b ∷ [] } in
@@ -191,25 +190,20 @@ module _ (A E : Type 0) (answer : ℕ → A → List ℕ → Answer A E) (closin
   pub after-starts : (bs : List ℕ) (s : Progress A E) → Starts s.printed (after_bytes answer bs s).printed
   after-starts [] s = starts-refl s.printed
   after-starts (b ∷ bs) s =
-      let t : Progress A E = heard_until answer s.end b s in
+      let t : Progress A E = heard answer s.end b s in
       starts-trans s.printed t.printed (after_bytes answer bs t).printed (heard-starts s.end b s) (after-starts bs t)
 
   ran-starts : (o : Option E) (s : Progress A E) → Starts s.printed (ran closing o s).text
   ran-starts None s = ((closing s.line s.state).text, refl)
   ran-starts (Some status) s = starts-refl s.printed
 
-  closed-starts : (text : List ℕ) (s : Progress A E) → Starts s.printed (closed answer text s).printed
-  closed-starts [] s = starts-refl s.printed
-  closed-starts (b ∷ bs) s = told-starts (answer s.line s.state s.text) s
-
-  finished-starts-by : (o : Option E) (s : Progress A E) → Starts s.printed (finished_by answer closing o s).text
-  finished-starts-by (Some status) s = starts-refl s.printed
-  finished-starts-by None s =
-      let t : Progress A E = closed answer s.text s in
-      starts-trans s.printed t.printed (ran closing t.end t).text (closed-starts s.text s) (ran-starts t.end t)
+  closed-starts : (s : Progress A E) → Starts s.printed (closed answer s).printed
+  closed-starts s = either-starts (eqb (length s.text) 0) s.printed s (heard answer s.end 10 s) (starts-refl s.printed) (heard-starts s.end 10 s)
 
   pub finished-starts : (s : Progress A E) → Starts s.printed (finished answer closing s).text
-  finished-starts s = finished-starts-by s.end s
+  finished-starts s =
+      let t : Progress A E = closed answer s in
+      starts-trans s.printed t.printed (ran closing t.end t).text (closed-starts s) (ran-starts t.end t)
 
   -- what is printed after some bytes is at the front of what is printed for the whole
   pub replay-starts : (xs ys : List ℕ) (s : Progress A E) → Starts (after_bytes answer xs s).printed (finished answer closing (after_bytes answer (xs ++ ys) s)).text
@@ -219,12 +213,27 @@ module _ (A E : Type 0) (answer : ℕ → A → List ℕ → Answer A E) (closin
       (starts-trans t.printed (after_bytes answer ys t).printed (finished answer closing (after_bytes answer ys t)).text (after-starts ys t)
       (finished-starts (after_bytes answer ys t)))
 
+  -- a line that has bytes is closed by its end
+  pub closed-some : (b : ℕ) (bs : List ℕ) (s : Progress A E) → s.text ≡ b ∷ bs → closed answer s ≡ heard answer s.end 10 s
+  closed-some b bs s e = ap (λ (l : List ℕ). cond (eqb (length l) 0) s (heard answer s.end 10 s)) e
+      ∙ ap (λ (t : Bool). cond t s (heard answer s.end 10 s)) (ne_eqb (length (b ∷ bs)) 0 (λ none. omega (arith, none)))
+
+  -- a trace that has ended is closed
+  closed-ended : (s : Progress A E) (status : E) → s.end ≡ Some status → closed answer s ≡ s
+  closed-ended s status e = ap (λ (o : Option E). cond (eqb (length s.text) 0) s (heard answer o 10 s)) e ∙ same (eqb (length s.text) 0)
+    where
+      same : (t : Bool) → cond t s s ≡ s
+      same true = refl
+      same false = refl
+
   -- a trace that ended after some bytes has ended so
   pub replay-ended : (xs ys : List ℕ) (s : Progress A E) (status : E) → (after_bytes answer xs s).end ≡ Some status
       → finished answer closing (after_bytes answer (xs ++ ys) s) ≡ record { text = (after_bytes answer xs s).printed; end = status }
   replay-ended xs ys s status e =
       let t : Progress A E = after_bytes answer xs s in
-      ap (finished answer closing) (after-++ xs ys s ∙ after-ended ys t status e) ∙ ap (λ (o : Option E). finished_by answer closing o t) e
+      ap (finished answer closing) (after-++ xs ys s ∙ after-ended ys t status e)
+      ∙ ap (λ (u : Progress A E). ran closing u.end u) (closed-ended t status e)
+      ∙ ap (λ (o : Option E). ran closing o t) e
 
   -- what is printed at the end of an input, after what was printed before
   ran-after : (p : List ℕ) (o : Option E) (s : Progress A E) → ran closing o (record s { printed = p ++ s.printed })
@@ -238,16 +247,18 @@ module _ (A E : Type 0) (answer : ℕ → A → List ℕ → Answer A E) (closin
       (append_assoc p s.printed block)
   told-after p (Ends r) s = ap (λ (l : List ℕ). record s { printed = l; end = Some r.end }) (append_assoc p s.printed r.text)
 
-  closed-after : (p text : List ℕ) (s : Progress A E) → closed answer text (record s { printed = p ++ s.printed })
-      ≡ (let t = closed answer text s in record t { printed = p ++ t.printed })
-  closed-after p [] s = refl
-  closed-after p (b ∷ bs) s = told-after p (answer s.line s.state s.text) s
+  closed-after : (p : List ℕ) (line : ℕ) (text : List ℕ) (state : A) → closed answer (standing line text state (p ++ []))
+      ≡ (let t = closed answer (standing line text state []) in record t { printed = p ++ t.printed })
+  closed-after p line [] state = refl
+  closed-after p line (b ∷ bs) state =
+      closed-some b bs (standing line (b ∷ bs) state (p ++ [])) refl
+      ∙ told-after p (answer line state (b ∷ bs)) (standing line (b ∷ bs) state [])
+      ∙ ap (λ (t : Progress A E). record t { printed = p ++ t.printed }) (sym (closed-some b bs (standing line (b ∷ bs) state []) refl))
 
   pub finished-after : (p : List ℕ) (line : ℕ) (text : List ℕ) (state : A) → finished answer closing (standing line text state p)
       ≡ record { text = p ++ (finished answer closing (standing line text state [])).text; end = (finished answer closing (standing line text state [])).end }
   finished-after p line text state =
-      let s : Progress A E = standing line text state [] in
-      let t : Progress A E = closed answer text s in
+      let t : Progress A E = closed answer (standing line text state []) in
       ap (λ (l : List ℕ). finished answer closing (standing line text state l)) (sym (append-nil p))
-      ∙ ap (λ (u : Progress A E). ran closing u.end u) (closed-after p text s)
+      ∙ ap (λ (u : Progress A E). ran closing u.end u) (closed-after p line text state)
       ∙ ran-after p t.end t

@@ -59,21 +59,6 @@ told (Goes block a) s =
     record { line = s.line + 1; text = []; state = a; printed = s.printed ++ block; end = None }
 told (Ends r) s = record s { printed = s.printed ++ r.text; end = Some r.end }
 
--- what an answer prints
-abbrev pub printed : {A E : Type 0} → Answer A E → List ℕ
-printed (Goes text a) = text
-printed (Ends r) = r.text
-
--- how it ends the trace, if it does
-abbrev pub end_of : {A E : Type 0} → Answer A E → Option E
-end_of (Goes text a) = None
-end_of (Ends r) = Some r.end
-
--- the state after it
-abbrev pub state_after : {A E : Type 0} → Answer A E → A → A
-state_after (Goes text a) old = a
-state_after (Ends r) old = old
-
 -- the present line is answered, by its number and the state before it
 abbrev pub answered : {A E : Type 0} → (ℕ → A → List ℕ → Answer A E) → Progress A E → Progress A E
 answered answer s = told (answer s.line s.state s.text) s
@@ -82,45 +67,31 @@ answered answer s = told (answer s.line s.state s.text) s
 abbrev pub checked : {A E : Type 0} → (ℕ → A → List ℕ → Answer A E) → Progress A E → Progress A E
 checked answer s = if nat_lt (limit_of s.text) (length s.text) then answered answer s else s
 
--- a byte comes: the end of the line has it answered, and any other byte is part of it
-abbrev pub heard : {A E : Type 0} → (ℕ → A → List ℕ → Answer A E) → ℕ → Progress A E
+-- a byte comes: the end of the line has it answered, and any other byte is part of it; a trace that
+-- has ended looks at no byte more
+abbrev pub heard : {A E : Type 0} → (ℕ → A → List ℕ → Answer A E) → Option E → ℕ → Progress A E
     → Progress A E
-heard answer b s =
+heard answer None b s =
     if b == 10 then answered answer s else checked answer (record s { text = s.text ++ b ∷ [] })
-
--- a trace that has ended looks at no byte more
-abbrev pub heard_until : {A E : Type 0} → (ℕ → A → List ℕ → Answer A E) → Option E → ℕ
-    → Progress A E → Progress A E
-heard_until answer None b s = heard answer b s
-heard_until answer (Some end) b s = s
+heard answer (Some end) b s = s
 
 -- the bytes come, one after the other
 abbrev pub after_bytes : {A E : Type 0} → (ℕ → A → List ℕ → Answer A E) → List ℕ → Progress A E
     → Progress A E
 after_bytes answer [] s = s
-after_bytes answer (b ∷ bs) s = after_bytes answer bs (heard_until answer s.end b s)
+after_bytes answer (b ∷ bs) s = after_bytes answer bs (heard answer s.end b s)
 
 -- the last line is answered, though its end is missing
-abbrev pub closed : {A E : Type 0} → (ℕ → A → List ℕ → Answer A E) → List ℕ → Progress A E
-    → Progress A E
-closed answer [] s = s
-closed answer (b ∷ bs) s = answered answer s
+abbrev pub closed : {A E : Type 0} → (ℕ → A → List ℕ → Answer A E) → Progress A E → Progress A E
+closed answer s = if length s.text == 0 then s else heard answer s.end 10 s
 
 -- a trace that has not ended where its input ends is closed at the next line
 abbrev pub ran : {A E : Type 0} → (ℕ → A → Closing E) → Option E → Progress A E → Closing E
-ran closing None s = record {
-  text = s.printed ++ (closing s.line s.state).text;
-  end = (closing s.line s.state).end;
-}
+ran closing None s =
+    let r = closing s.line s.state in record { text = s.printed ++ r.text; end = r.end }
 ran closing (Some end) s = record { text = s.printed; end = end }
-
--- the input ends
-abbrev pub finished_by : {A E : Type 0} → (ℕ → A → List ℕ → Answer A E) → (ℕ → A → Closing E)
-    → Option E → Progress A E → Closing E
-finished_by answer closing None s = let t = closed answer s.text s in ran closing t.end t
-finished_by answer closing (Some end) s = ran closing (Some end) s
 
 -- what is printed for the whole input, and how the run ends
 abbrev pub finished : {A E : Type 0} → (ℕ → A → List ℕ → Answer A E) → (ℕ → A → Closing E)
     → Progress A E → Closing E
-finished answer closing s = finished_by answer closing s.end s
+finished answer closing s = let t = closed answer s in ran closing t.end t

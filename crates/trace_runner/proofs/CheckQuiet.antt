@@ -7,7 +7,7 @@ use Rattle.trace_text.specs.declared.faults.RecordFault.{RecordFault}
 use Rattle.trace_text.specs.declared.reading.Item.{Item}
 use Rattle.trace_text.specs.declared.reading.Item.TheVariants.{Next}
 use Rattle.trace_text.specs.declared.records.Record.{Record as Written}
-use Rattle.trace_loop.specs.Progress.{Closing, Answer, Goes, Ends, Progress, opened, told, answered, after_bytes, closed, ran, finished_by}
+use Rattle.trace_loop.specs.Progress.{Closing, Answer, Goes, Ends, Progress, opened, told, answered, after_bytes, closed, ran, finished}
 use Rattle.trace_runner.specs.Records.{stops}
 use Rattle.trace_runner.specs.Replay.{record_answer, at_start}
 use Rattle.trace_runner.specs.Check.{
@@ -95,18 +95,16 @@ silent_ran : (end : Option Checked) (p : Progress Checking Checked) → p.end �
 silent_ran None p is quiet = tt
 silent_ran (Some e) p is quiet = subst (λ (x : Option Checked). Silent x p.printed) is quiet
 
-silent_finished : (end : Option Checked) (p : Progress Checking Checked) → p.end ≡ end → IsQuiet p
-    → SilentAnswer (Ends (finished_by check_answer check_closing end p))
-silent_finished None p is quiet =
-    let t : Progress Checking Checked = closed check_answer p.text p in
-    silent_ran t.end t refl (stays-closed check_answer IsQuiet quiet-answered (λ b q none same. same) p.text p is quiet)
-silent_finished (Some e) p is quiet = silent_ran (Some e) p is quiet
+silent_finished : (p : Progress Checking Checked) → IsQuiet p → SilentAnswer (Ends (finished check_answer check_closing p))
+silent_finished p quiet =
+    let t : Progress Checking Checked = closed check_answer p in
+    silent_ran t.end t refl (stays-closed check_answer IsQuiet quiet-answered (λ b q none same. same) p quiet)
 
 silent_check : (shows_state : Bool) (bytes : List ℕ) → SilentAnswer (Ends (check shows_state bytes))
 unfolding check check_after
 silent_check shows_state bytes =
     let p : Progress Checking Checked = after_bytes check_answer bytes (opened (unchecked (at_start shows_state))) in
-    silent_finished p.end p refl (quiet-after shows_state bytes)
+    silent_finished p (quiet-after shows_state bytes)
 
 -- a whole trace comes with no text
 pub silent_whole : (shows_state : Bool) (bytes : List ℕ) (trace : TraceRead) → (check shows_state bytes).end ≡ Whole trace

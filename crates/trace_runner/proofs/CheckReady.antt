@@ -13,7 +13,8 @@ use Rattle.trace_text.specs.declared.records.Job.TheVariants.{Ask, Save, Move}
 use Rattle.trace_text.specs.declared.records.Record.{Record as Written}
 use Rattle.trace_text.specs.declared.reading.Item.{Item}
 use Rattle.trace_text.specs.declared.reading.Item.TheVariants.{Begun, Next, End}
-use Rattle.trace_loop.specs.Progress.{Answer, Goes, Ends, end_of, state_after}
+use Rattle.trace_loop.specs.Progress.{Answer, Goes, Ends}
+use Rattle.trace_loop.specs.Answered.{end_of, state_after}
 use Rattle.trace_runner.specs.Records.{job_answer}
 use Rattle.trace_runner.specs.Replay.{with_board, record_answer, item_answer}
 use Rattle.trace_runner.specs.Ready.{IsRound, IsReady, JobSuits, Suits}

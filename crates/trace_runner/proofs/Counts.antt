@@ -27,8 +27,8 @@ use Rattle.reply_text.specs.declared.ends.Refused.TheVariants.{Invalid, Range}
 use Rattle.trace_text.specs.Records.{IsFittingCall}
 use Rattle.trace_text.specs.declared.records.Call.{Call}
 use Rattle.trace_text.specs.declared.records.Call.TheVariants.{Act}
-use Rattle.trace_loop.specs.Progress.{Answer, Goes, Ends, printed, end_of, state_after}
-use Rattle.trace_loop.specs.Answered.{IsAnswered}
+use Rattle.trace_loop.specs.Progress.{Answer, Goes, Ends}
+use Rattle.trace_loop.specs.Answered.{printed, end_of, state_after, IsAnswered}
 use Rattle.trace_runner.specs.Records.{
   refused_count,
   refused_fault,

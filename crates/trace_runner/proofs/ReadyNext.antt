@@ -25,7 +25,8 @@ use Rattle.trace_text.specs.declared.reading.Item.TheVariants.{Begun, Next, End}
 use Rattle.trace_text.specs.declared.reading.ReadingParts.{ReadingParts}
 use Rattle.trace_text.specs.declared.reading.Stage.{Stage}
 use Rattle.trace_text.specs.declared.reading.Stage.TheVariants.{Opening, Heading, Running}
-use Rattle.trace_loop.specs.Progress.{Answer, Goes, Ends, end_of, state_after}
+use Rattle.trace_loop.specs.Progress.{Answer, Goes, Ends}
+use Rattle.trace_loop.specs.Answered.{end_of, state_after}
 use Rattle.trace_runner.specs.Records.{answer_unless, ended_answer, job_answer}
 use Rattle.trace_runner.specs.Replay.{item_answer, with_board}
 use Rattle.trace_runner.specs.Ready.{IsRound, IsReady}

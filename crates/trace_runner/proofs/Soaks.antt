@@ -6,7 +6,8 @@ use Rattle.board_io.specs.Faults.{Rose}
 use Rattle.board_core.specs.Time.{now_of}
 use Rattle.reply_text.specs.Soak.{soak_text}
 use Rattle.trace_loop.specs.Text.{memory_fault_text}
-use Rattle.trace_loop.specs.Progress.{Answer, Goes, Ends, Progress, printed, end_of, told, answered, after_bytes}
+use Rattle.trace_loop.specs.Progress.{Answer, Goes, Ends, Progress, told, answered, after_bytes}
+use Rattle.trace_loop.specs.Answered.{printed, end_of}
 use Rattle.trace_loop.specs.Outcome.{Begins, Run, Outcome}
 use Rattle.trace_loop.specs.declared.ended.Ended.{Ended}
 use Rattle.trace_loop.specs.declared.ended.Ended.TheVariants.{

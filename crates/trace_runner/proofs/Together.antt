@@ -48,6 +48,7 @@ use Rattle.trace_text.specs.declared.reading.Stage.TheVariants.{Opening, Heading
 use Rattle.trace_text.specs.declared.records.Job.{Job}
 use Rattle.trace_text.specs.declared.records.Job.TheVariants.{Ask, Save, Move}
 use Rattle.trace_text.specs.declared.records.Record.{Record as Written}
+use Rattle.trace_loop.proofs.Progresses.{replay-ended}
 use Rattle.trace_loop.specs.Progress.{
   limit_of,
   Closing,
@@ -60,11 +61,10 @@ use Rattle.trace_loop.specs.Progress.{
   answered,
   checked,
   heard,
-  heard_until,
   after_bytes,
   closed,
   ran,
-  finished_by,
+  finished,
 }
 use Rattle.race_phase.specs.declared.records.Answer.TheVariants.{Acted}
 use Rattle.race_phase.specs.Blocks.{block_of}
@@ -363,7 +363,7 @@ twins-none : (c : Progress Checking Checked) → c.end ≡ None → IsKept c.sta
 twins-none c none kept_ = subst (λ (e : Option Checked). Twins e (twin c) c) (sym none) (refl, kept_)
 
 twins-heard : (b : ℕ) (c : Progress Checking Checked) → c.end ≡ None → IsKept c.state
-    → Twins (heard check_answer b c).end (heard answer_of b (twin c)) (heard check_answer b c)
+    → Twins (heard check_answer None b c).end (heard answer_of None b (twin c)) (heard check_answer None b c)
 twins-heard b c none kept_ =
     let longer : Progress Checking Checked = record c { text = c.text ++ b ∷ [] } in
     twins-cond (b == 10) (answered answer_of (twin c)) (checked answer_of (twin longer)) (answered check_answer c) (checked check_answer longer)
@@ -372,26 +372,27 @@ twins-heard b c none kept_ =
     (twins-answered longer kept_) (twins-none longer none kept_))
 
 twins-until : (end : Option Checked) (b : ℕ) (p : Progress Replay Verdict) (c : Progress Checking Checked) → c.end ≡ end → Twins end p c
-    → Twins (heard_until check_answer end b c).end (heard_until answer_of p.end b p) (heard_until check_answer end b c)
+    → Twins (heard check_answer end b c).end (heard answer_of p.end b p) (heard check_answer end b c)
 twins-until None b p c is same =
-    subst (λ (q : Progress Replay Verdict). Twins (heard check_answer b c).end (heard_until answer_of q.end b q) (heard check_answer b c)) (sym same.0)
+    subst (λ (q : Progress Replay Verdict). Twins (heard check_answer None b c).end (heard answer_of q.end b q) (heard check_answer None b c)) (sym same.0)
     (twins-heard b c is same.1)
 twins-until (Some (Whole t)) b p c is same =
-    subst (λ (e : Option Checked). Twins e (heard_until answer_of p.end b p) c) (sym is)
-    (subst (λ (e : Option Verdict). (let q = heard_until answer_of e b p in (q.end ≡ Some Done) × (q.printed ≡ file_text t))) (sym same.0) same)
+    subst (λ (e : Option Checked). Twins e (heard answer_of p.end b p) c) (sym is)
+    (subst (λ (e : Option Verdict). (let q = heard answer_of e b p in (q.end ≡ Some Done) × (q.printed ≡ file_text t))) (sym same.0) same)
 twins-until (Some (Stopped verdict)) b p c is same =
-    subst (λ (e : Option Checked). Twins e (heard_until answer_of p.end b p) c) (sym is) tt
+    subst (λ (e : Option Checked). Twins e (heard answer_of p.end b p) c) (sym is) tt
 
 twins-after : (bytes : List ℕ) (p : Progress Replay Verdict) (c : Progress Checking Checked) → Twins c.end p c
     → Twins (after_bytes check_answer bytes c).end (after_bytes answer_of bytes p) (after_bytes check_answer bytes c)
 twins-after [] p c same = same
 twins-after (b ∷ bs) p c same =
-    twins-after bs (heard_until answer_of p.end b p) (heard_until check_answer c.end b c) (twins-until c.end b p c refl same)
+    twins-after bs (heard answer_of p.end b p) (heard check_answer c.end b c) (twins-until c.end b p c refl same)
 
-twins-closed : (text : List ℕ) (c : Progress Checking Checked) → c.end ≡ None → IsKept c.state
-    → Twins (closed check_answer text c).end (closed answer_of text (twin c)) (closed check_answer text c)
-twins-closed [] c none kept_ = twins-none c none kept_
-twins-closed (b ∷ bs) c none kept_ = twins-answered c kept_
+twins-closed : (c : Progress Checking Checked) → c.end ≡ None → IsKept c.state
+    → Twins (closed check_answer c).end (closed answer_of (twin c)) (closed check_answer c)
+twins-closed c none kept_ =
+    twins-cond (length c.text == 0) (twin c) (heard answer_of None 10 (twin c)) c (heard check_answer c.end 10 c)
+    (twins-none c none kept_) (twins-until c.end 10 (twin c) c refl (twins-none c none kept_))
 
 -- a check that came to a whole trace: the replay came to its end, and printed the trace's text
 abbrev EndsWith : Checked → Closing Verdict → Type 0
@@ -406,15 +407,19 @@ twins-ran (Some (Whole t)) p c is same =
 twins-ran (Some (Stopped verdict)) p c is same = tt
 
 twins-finished : (end : Option Checked) (p : Progress Replay Verdict) (c : Progress Checking Checked) → c.end ≡ end → Twins end p c
-    → EndsWith (finished_by check_answer check_closing end c).end (finished_by answer_of closing_of p.end p)
+    → EndsWith (finished check_answer check_closing c).end (finished answer_of closing_of p)
 twins-finished None p c is same =
-    let d : Progress Checking Checked = closed check_answer c.text c in
-    let q : Progress Replay Verdict = closed answer_of c.text (twin c) in
-    subst (λ (x : Progress Replay Verdict). EndsWith (ran check_closing d.end d).end (finished_by answer_of closing_of x.end x)) (sym same.0)
-    (twins-ran d.end q d refl (twins-closed c.text c is same.1))
+    let d : Progress Checking Checked = closed check_answer c in
+    subst (λ (x : Progress Replay Verdict). EndsWith (ran check_closing d.end d).end (finished answer_of closing_of x)) (sym same.0)
+    (twins-ran d.end (closed answer_of (twin c)) d refl (twins-closed c is same.1))
 twins-finished (Some (Whole t)) p c is same =
-    subst (λ (e : Option Verdict). (let r = finished_by answer_of closing_of e p in (r.end ≡ Done) × (r.text ≡ file_text t))) (sym same.0) (refl, same.1)
-twins-finished (Some (Stopped verdict)) p c is same = tt
+    subst (λ (r : Closing Checked). EndsWith r.end (finished answer_of closing_of p))
+    (sym (replay-ended Checking Checked check_answer check_closing [] [] c (Whole t) is))
+    (subst (λ (r : Closing Verdict). (r.end ≡ Done) × (r.text ≡ file_text t))
+    (sym (replay-ended Replay Verdict answer_of closing_of [] [] p Done same.0)) (refl, same.1))
+twins-finished (Some (Stopped verdict)) p c is same =
+    subst (λ (r : Closing Checked). EndsWith r.end (finished answer_of closing_of p))
+    (sym (replay-ended Checking Checked check_answer check_closing [] [] c (Stopped verdict) is)) tt
 
 replay_so : (shows_state : Bool) (bytes : List ℕ) → EndsWith (check shows_state bytes).end (replay shows_state bytes)
 unfolding check check_after replay progress_after

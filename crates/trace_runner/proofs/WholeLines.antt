@@ -78,7 +78,8 @@ use Rattle.trace_text.specs.declared.reading.Item.TheVariants.{Skipped, Part, Be
 use Rattle.trace_text.specs.declared.records.Job.{Job}
 use Rattle.trace_text.specs.declared.records.Call.TheVariants.{Act, ReadPage, ReadClock, ReadHv}
 use Rattle.trace_text.specs.declared.records.Job.TheVariants.{Ask, Save, Move}
-use Rattle.trace_loop.specs.Progress.{limit_of, Answer, Goes, Ends, Progress, printed, opened, told, answered, checked, heard, heard_until, after_bytes}
+use Rattle.trace_loop.specs.Progress.{limit_of, Answer, Goes, Ends, Progress, opened, told, answered, checked, heard, after_bytes}
+use Rattle.trace_loop.specs.Answered.{printed}
 use Rattle.race_phase.specs.Blocks.{edges_text, messages_text, block_of}
 use Rattle.race_phase.specs.Phases.{end_fault}
 use Rattle.race_phase.specs.declared.faults.Fault.{Fault}
@@ -239,20 +240,17 @@ either_whole : (t : Bool) (a b : Progress Replay Verdict) → IsWholeLines a.pri
 either_whole true a b x y = x
 either_whole false a b x y = y
 
-heard_whole : (b : ℕ) (p : Progress Replay Verdict) → IsWholeLines p.printed → IsWholeLines (heard answer_of b p).printed
-heard_whole b p before =
+heard_whole : (end : Option Verdict) (b : ℕ) (p : Progress Replay Verdict) → IsWholeLines p.printed
+    → IsWholeLines (heard answer_of end b p).printed
+heard_whole None b p before =
     let longer : Progress Replay Verdict = record p { text = p.text ++ b ∷ [] } in
     either_whole (b == 10) (answered answer_of p) (checked answer_of longer) (answered_whole p before)
     (either_whole (ltb (limit_of longer.text) (length longer.text)) (answered answer_of longer) longer (answered_whole longer before) before)
-
-until_whole : (end : Option Verdict) (b : ℕ) (p : Progress Replay Verdict) → IsWholeLines p.printed
-    → IsWholeLines (heard_until answer_of end b p).printed
-until_whole None b p before = heard_whole b p before
-until_whole (Some end) b p before = before
+heard_whole (Some end) b p before = before
 
 after_whole : (bytes : List ℕ) (p : Progress Replay Verdict) → IsWholeLines p.printed → IsWholeLines (after_bytes answer_of bytes p).printed
 after_whole [] p before = before
-after_whole (b ∷ bs) p before = after_whole bs (heard_until answer_of p.end b p) (until_whole p.end b p before)
+after_whole (b ∷ bs) p before = after_whole bs (heard answer_of p.end b p) (heard_whole p.end b p before)
 
 -- what a replay has printed after any bytes
 pub progress_whole : (shows_state : Bool) (bytes : List ℕ) → IsWholeLines (progress_after shows_state bytes).printed

@@ -10,7 +10,7 @@ use Rattle.race_phase.specs.declared.deliveries.Deliveries.{Deliveries}
 use Rattle.race_phase.specs.declared.records.Answer.TheVariants.{Acted}
 use Rattle.race_phase.specs.Blocks.{block_of, edges_text, messages_text}
 use Rattle.trace_text.specs.declared.records.Call.TheVariants.{Act}
-use Rattle.trace_loop.specs.Progress.{printed}
+use Rattle.trace_loop.specs.Answered.{printed}
 use Rattle.trace_runner.specs.Records.{call_answer}
 use Rattle.trace_runner.specs.Replay.{with_board}
 use Rattle.trace_runner.proofs.Counts.{access-printed}

@@ -1,7 +1,8 @@
 use Rattle.std.proofs.Common.{rules, ◌≡◌, List, ℕ, ◌++◌, Some, take, drop, length, arith, refl, sym, ap, ◌∙◌}
 use Rattle.board_core.specs.Time.{now_of}
 use Rattle.reply_text.specs.Soak.{soak_text}
-use Rattle.trace_loop.specs.Progress.{Answer, printed, end_of}
+use Rattle.trace_loop.specs.Progress.{Answer}
+use Rattle.trace_loop.specs.Answered.{printed, end_of}
 use Rattle.trace_runner.specs.Replay.{answer_of}
 use Rattle.trace_runner.specs.Soak.{soak_answer, sum_or}
 use Rattle.trace_runner.specs.declared.replay.Replay.{Replay}
