@@ -3,6 +3,7 @@ use Rattle.std.proofs.Common.{◌≡◌, ℕ, ◌+◌, Bool, true, false, cond, 
 use Rattle.std.specs.Str.{bytes_eq}
 use Rattle.trace_text.specs.Tokens.{words_of}
 use Rattle.trace_text.specs.Header.{first_line, header_line, header_of, body_of}
+use Rattle.trace_text.specs.Rows.{and_then}
 use Rattle.trace_text.specs.Records.{record_of, body_after}
 use Rattle.trace_text.specs.Lines.{
   is_skipped,
@@ -45,11 +46,11 @@ module _ (P : Item → Stage → Type 0) where
   HoldsFrom (Running body) = P End Ended × ((rec : Record) → P (Next rec) (Running (body_after body rec)))
   HoldsFrom _ = Unit {0}
 
-  part_holds : (x : Result Head Reason) → ((head : Head) → P Part (Heading head)) → Holds (part x)
+  part_holds : (x : Result Head Reason) → ((head : Head) → P Part (Heading head)) → Holds (and_then part x)
   part_holds (Ok head) each = each head
   part_holds (Err reason) each = tt
 
-  next_holds : (body : Body) (x : Result Record Reason) → ((rec : Record) → P (Next rec) (Running (body_after body rec))) → Holds (next body x)
+  next_holds : (body : Body) (x : Result Record Reason) → ((rec : Record) → P (Next rec) (Running (body_after body rec))) → Holds (and_then (next body) x)
   next_holds body (Ok rec) each = each rec
   next_holds body (Err reason) each = tt
 
@@ -61,10 +62,10 @@ module _ (P : Item → Stage → Type 0) where
   step_holds line Opening each = part_holds (first_line (words_of line)) each
   step_holds line (Heading head) each =
       let more : Result Head Reason = header_line head (words_of line) in
-      either_holds (bytes_eq line (codes "begin")) (Ok (begun head)) (part more) each.0 (part_holds more each.1)
+      either_holds (bytes_eq line (codes "begin")) (Ok (begun head)) (and_then part more) each.0 (part_holds more each.1)
   step_holds line (Running body) each =
       let rec : Result Record Reason = record_of body (words_of line) in
-      either_holds (bytes_eq line (codes "end")) (Ok (record { item = End; stage = Ended })) (next body rec) each.0 (next_holds body rec each.1)
+      either_holds (bytes_eq line (codes "end")) (Ok (record { item = End; stage = Ended })) (and_then (next body) rec) each.0 (next_holds body rec each.1)
   step_holds line _ each = tt
 
   stepped_holds : (line : List ℕ) (s : Stage) → P Skipped s → HoldsFrom s → Holds (stepped s line)

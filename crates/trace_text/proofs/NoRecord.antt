@@ -7,6 +7,7 @@ use Rattle.std.specs.Char.{digit_value}
 use Rattle.std.specs.Str.{bytes_eq}
 use Rattle.std.proofs.lemmas.Bool.{lt-ltb, le-ltb, cases_lt, ne_eqb, leb-false}
 use Rattle.trace_text.specs.Tokens.{words_of, dec, decimal_in, number_in}
+use Rattle.trace_text.specs.Rows.{and_then}
 use Rattle.trace_text.specs.Records.{record_of}
 use Rattle.trace_loop.specs.Progress.{limit_of}
 use Rattle.trace_text.specs.Lines.{is_skipped, stepped, step_of, Step, next, item_in, record_in}
@@ -52,7 +53,7 @@ record_in-running body line none =
     (by_end (bytes_eq line (codes "end")) (record_of body (words_of line)) none)
   where
     by_end : (is_end : Bool) (r : Result Record Reason) → IsErr r
-        → record_in (item_in (cond is_end (Ok (record { item = End; stage = Ended })) (next body r))) ≡ None
+        → record_in (item_in (cond is_end (Ok (record { item = End; stage = Ended })) (and_then (next body) r))) ≡ None
     by_end true r none = refl
     by_end false (Ok r) none = cc
     by_end false (Err reason) none = refl

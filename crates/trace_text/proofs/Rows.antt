@@ -133,11 +133,13 @@ words = refl
 
 -- timers: three of them in format 1
 timers : map (read 1) (codes "0 5 counts hpet2" ∷ codes "0 5 counts hpet3" ∷ []) ≡ acts 0 5 (CountsOf (Hpet 2)) ∷ Err Form ∷ []
-unfolding record_of job_of words_of decimal_in hex_in number_in
+unfolding record_of job_of words_of decimal_in decimal_past hex_in number_in
 timers = refl
 
-timer_in_format_2 : read 2 (codes "0 5 counts hpet7") ≡ acts 0 5 (CountsOf (Hpet 7))
-unfolding record_of job_of words_of decimal_in hex_in number_in
+timer_in_format_2 : map (read 2) (codes "0 5 counts hpet7" ∷ codes "0 5 counts hpet8" ∷ codes "0 5 counts hpet07"
+    ∷ codes "0 5 counts hpet" ∷ codes "0 5 counts hpet 7" ∷ [])
+    ≡ acts 0 5 (CountsOf (Hpet 7)) ∷ Err Form ∷ Err Form ∷ Err Form ∷ Err Form ∷ []
+unfolding record_of job_of words_of decimal_in decimal_past hex_in number_in
 timer_in_format_2 = refl
 
 -- `rose` is read from format 2 on

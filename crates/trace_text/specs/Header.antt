@@ -37,7 +37,7 @@ use Rattle.tick_policy.specs.declared.parts.Policy.TheVariants.{Discard, Delay, 
 use Rattle.trace_text.specs.Tokens.{dec, byte, khz, dec_within, starts, such_that}
 use Rattle.trace_text.specs.State.{hexes, restored}
 use Rattle.board_types.specs.declared.parts.BoardParts.{BoardParts}
-use Rattle.trace_text.specs.Rows.{place, last, Row, row, by_table}
+use Rattle.trace_text.specs.Rows.{and_then, place, last, Row, row, by_table}
 use Rattle.reply_text.specs.declared.ends.Reason.{Reason}
 use Rattle.reply_text.specs.declared.ends.Reason.TheVariants.{Form, Cpu}
 use Rattle.trace_text.specs.declared.header.TheConstants.{
@@ -120,15 +120,13 @@ rtc_row s =
       time = record { sec = sec; min = m; hour = h; wday = w; date = d; month = o; year = y };
     })))))))))
 
--- what a trace begins with is set up by the line of this number
-abbrev pub set_up : ℕ → Head → Result Setup Reason → Result Head Reason
-set_up number head (Ok s) = Ok (record head { row = number; begin = Fresh s })
-set_up number head (Err reason) = Err reason
-
 -- a line that sets something up comes after those of smaller numbers
 abbrev pub setup_row : List ℕ → ℕ → Head → (List (List ℕ) → Result Setup Reason) → Row Head
 setup_row name number head means =
-    row name (λ ws. if nat_lt head.row number then set_up number head (means ws) else Err Form)
+    row name (λ ws.
+    if nat_lt head.row number then
+    and_then (λ s. Ok (record head { row = number; begin = Fresh s })) (means ws)
+    else Err Form)
 
 -- the board with which a trace begins
 abbrev pub board_of : Begin → BoardParts
@@ -140,13 +138,10 @@ abbrev pub in_front : Head → Result Head Reason → Result Head Reason
 in_front head answer = if head.row == FORMAT_ROW then answer else Err Form
 
 -- `state HEXES`: a saved board in place of a setup
-abbrev pub resumes : Head → Result BoardParts Reason → Result Head Reason
-resumes head (Ok b) = Ok (record head { row = STATE_ROW; begin = Saved b })
-resumes head (Err reason) = Err reason
-
--- `state HEXES`
 abbrev pub state_row : Head → ℕ → List (List ℕ) → Result Head Reason
-state_row head format = place hexes (λ bytes. last (resumes head (restored format bytes)))
+state_row head format =
+    place hexes (λ bytes.
+    last (and_then (λ b. Ok (record head { row = STATE_ROW; begin = Saved b })) (restored format bytes)))
 
 -- the place of a line among the six, by its number
 abbrev pub place_of_line : ℕ → ℕ

@@ -24,6 +24,7 @@ use Rattle.std.specs.Prelude.{
 use Rattle.std.specs.Str.{bytes_eq}
 use Rattle.trace_loop.specs.Progress.{limit_of}
 use Rattle.trace_text.specs.Tokens.{words_of}
+use Rattle.trace_text.specs.Rows.{and_then}
 use Rattle.trace_text.specs.Records.{record_of, body_after, IsRecord}
 use Rattle.trace_text.specs.Header.{first_line, header_line, header_of, body_of, IsHead, IsBegin}
 use Rattle.reply_text.specs.declared.ends.Reason.{Reason}
@@ -63,29 +64,27 @@ pub record Step : Type 0 where
 abbrev pub met : Record → Stage → Step
 met r stage = record { item = NextItem r; stage = stage }
 
--- a header line, `begin`, a record, `end`
-abbrev pub part : Result Head Reason → Result Step Reason
-part (Ok head) = Ok (record { item = Part; stage = Heading head })
-part (Err reason) = Err reason
+-- a line of the header, before `begin`
+abbrev pub part : Head → Result Step Reason
+part head = Ok (record { item = Part; stage = Heading head })
 
 -- the trace begins: what its header set up, and what is known before its first record
 abbrev pub begun : Head → Step
 begun head = record { item = Begun (header_of head); stage = Running (body_of head) }
 
 -- a record, and what is known after it
-abbrev pub next : Body → Result Record Reason → Result Step Reason
-next body (Ok r) = Ok (record { item = NextItem r; stage = Running (body_after body r) })
-next body (Err reason) = Err reason
+abbrev pub next : Body → Record → Result Step Reason
+next body r = Ok (met r (Running (body_after body r)))
 
 -- by the stage: the first line; a header line or `begin`; a record or `end`
 abbrev pub step_of : Stage → List ℕ → Result Step Reason
-step_of Opening line = part (first_line (words_of line))
+step_of Opening line = and_then part (first_line (words_of line))
 step_of (Heading head) line =
     if bytes_eq line (codes "begin") then Ok (begun head)
-    else part (header_line head (words_of line))
+    else and_then part (header_line head (words_of line))
 step_of (Running body) line =
     if bytes_eq line (codes "end") then Ok (record { item = End; stage = Ended })
-    else next body (record_of body (words_of line))
+    else and_then (next body) (record_of body (words_of line))
 step_of Ended line = Err Form
 step_of (Refused fault) line = Err fault.reason
 

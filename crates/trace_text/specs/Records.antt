@@ -23,6 +23,7 @@ use Rattle.std.specs.Prelude.{
   ◌<◌,
   ◌≤◌,
 }
+use Rattle.std.specs.Option.{option_map}
 use Rattle.board_types.specs.Legal.{is_legal}
 use Rattle.board_types.specs.declared.access.Access.{Access}
 use Rattle.board_types.specs.declared.access.Access.TheVariants.{
@@ -55,8 +56,9 @@ use Rattle.trace_text.specs.Tokens.{
   dec_of_bits,
   hex_of_bits,
   starts,
+  such_that,
 }
-use Rattle.trace_text.specs.Rows.{place, last, Row, row, by_table}
+use Rattle.trace_text.specs.Rows.{and_then, place, last, Row, row, by_table}
 use Rattle.reply_text.specs.declared.ends.Reason.{Reason}
 use Rattle.reply_text.specs.declared.ends.Reason.TheVariants.{Form, Steal, Cpu, CounterFell}
 use Rattle.trace_text.specs.declared.records.Call.{Call}
@@ -82,20 +84,12 @@ on_cpu body p job = if nat_lt p body.cpus then Ok job else Err Cpu
 abbrev pub from_format : ℕ → Body → Result Job Reason → Result Job Reason
 from_format least body job = if nat_le least body.format then job else Err Form
 
--- `pit`, `rtc`, `hpet0`, `hpet1`, ..
+-- `pit`, `rtc`, `hpetT`
 abbrev pub source : List (List ℕ) → Option TickSource
 source ws =
     if starts (codes "pit") ws then Some Pit
     else if starts (codes "rtc") ws then Some Rtc
-    else if starts (codes "hpet0") ws then Some (Hpet 0)
-    else if starts (codes "hpet1") ws then Some (Hpet 1)
-    else if starts (codes "hpet2") ws then Some (Hpet 2)
-    else if starts (codes "hpet3") ws then Some (Hpet 3)
-    else if starts (codes "hpet4") ws then Some (Hpet 4)
-    else if starts (codes "hpet5") ws then Some (Hpet 5)
-    else if starts (codes "hpet6") ws then Some (Hpet 6)
-    else if starts (codes "hpet7") ws then Some (Hpet 7)
-    else None
+    else option_map Hpet (such_that (λ n. nat_lt n 8) (first (decimal_past (codes "hpet")) ws))
 
 -- `apicP`: the local APIC of processor P
 abbrev pub apic : List (List ℕ) → Option ℕ
@@ -207,14 +201,10 @@ in_turn body cpu h job =
     else Ok (record { cpu = cpu; h = h; job = job }))
     else Err Cpu
 
--- the reasons in their order: Form and those of the job, Cpu, CounterFell
-abbrev pub judged : Body → ℕ → ℕ → Result Job Reason → Result Record Reason
-judged body cpu h (Err reason) = Err reason
-judged body cpu h (Ok job) = in_turn body cpu h job
-
--- `CPU H` and a row of the table
+-- `CPU H` and a row of the table; the reasons in their order: Form and those of the job, Cpu,
+-- CounterFell
 unfoldable pub record_of : Body → List (List ℕ) → Result Record Reason
-record_of body = place dec (λ cpu. place dec (λ h ws. judged body cpu h (job_of body ws)))
+record_of body = place dec (λ cpu. place dec (λ h ws. and_then (in_turn body cpu h) (job_of body ws)))
 
 -- the counters before, after a record: a move begins with its own start, for every processor
 abbrev pub before_after : List ℕ → Record → Job → List ℕ

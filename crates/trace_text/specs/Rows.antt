@@ -1,19 +1,19 @@
 -- Rows of a table of lines: a name, and what the words after it make.
-use Rattle.std.specs.Prelude.{ℕ, List, [], ◌∷◌, Option, Some, None, Result, Ok, Err, if◌then◌else◌}
+use Rattle.std.specs.Prelude.{ℕ, List, [], ◌∷◌, Option, Result, Ok, Err, if◌then◌else◌}
+use Rattle.std.specs.Option.{ok_or}
 use Rattle.trace_text.specs.Tokens.{rest, starts}
 use Rattle.reply_text.specs.declared.ends.Reason.{Reason}
 use Rattle.reply_text.specs.declared.ends.Reason.TheVariants.{Form}
 
--- what a token's value, if there is one, makes of the words after it
-abbrev pub placed : {A T : Type 0} → (A → List (List ℕ) → Result T Reason)
-    → List (List ℕ) → Option A → Result T Reason
-placed row words None = Err Form
-placed row words (Some x) = row x words
+-- what a value makes, if there is one; else the reason stays
+abbrev pub and_then : {A T : Type 0} → (A → Result T Reason) → Result A Reason → Result T Reason
+and_then makes (Ok x) = makes x
+and_then makes (Err reason) = Err reason
 
 -- a token stands first; its value makes of the words after it what the row says
 abbrev pub place : {A T : Type 0} → (List (List ℕ) → Option A)
     → (A → List (List ℕ) → Result T Reason) → List (List ℕ) → Result T Reason
-place token row ws = placed row (rest ws) (token ws)
+place token means ws = and_then (λ x. means x (rest ws)) (ok_or (token ws) Form)
 
 -- no word is left
 abbrev pub last : {T : Type 0} → Result T Reason → List (List ℕ) → Result T Reason

@@ -11,7 +11,6 @@ ghost use Rattle.trace_text.specs.Header.{
   later_rows,
   last_rows,
   header_line,
-  set_up,
   header_of,
   body_of,
   IsHead,
@@ -236,7 +235,7 @@ impl Head {
         requires setup { IsSetup setup }
         requires early { self.old.row < number }
         requires first { number < ROUTE_ROW }
-        ensures head { set_up number self.old (Ok setup) ≡ Ok self.new }
+        ensures head { self.new ≡ record self.old { row = number; begin = Begin.Fresh setup } }
         ensures valid { IsHead self.new }
     {
         self.row = number;

@@ -1,8 +1,8 @@
 //! What a record does, by the words after its counter.
-ghost use Rattle.std.specs.Prelude.{◌≡◌, ◌<◌, Ok, IfOk, OnSome, IfNone};
+ghost use Rattle.std.specs.Prelude.{◌≡◌, ◌<◌, nat_lt, Ok, IfOk, OnSome, IfNone, codes};
 ghost use Rattle.board_types.specs.Legal.{is_port, is_hpet_place};
 ghost use Rattle.irq_edges.specs.Lines.{is_line};
-ghost use Rattle.trace_text.specs.Tokens.{rest};
+ghost use Rattle.trace_text.specs.Tokens.{rest, first, such_that, decimal_past};
 ghost use Rattle.trace_text.specs.Rows.{last};
 ghost use Rattle.board_types.specs.declared.setup.TheConstants.{HV_FORMAT};
 ghost use Rattle.trace_text.specs.Records.{
@@ -231,22 +231,23 @@ fn source(words: &mut Words<'_>) -> Option<TickSource>
         Some(TickSource::Pit)
     } else if words.takes(b"rtc") {
         Some(TickSource::Rtc)
-    } else if words.takes(b"hpet0") {
-        Some(TickSource::Hpet(0))
-    } else if words.takes(b"hpet1") {
-        Some(TickSource::Hpet(1))
-    } else if words.takes(b"hpet2") {
-        Some(TickSource::Hpet(2))
-    } else if words.takes(b"hpet3") {
-        Some(TickSource::Hpet(3))
-    } else if words.takes(b"hpet4") {
-        Some(TickSource::Hpet(4))
-    } else if words.takes(b"hpet5") {
-        Some(TickSource::Hpet(5))
-    } else if words.takes(b"hpet6") {
-        Some(TickSource::Hpet(6))
-    } else if words.takes(b"hpet7") {
-        Some(TickSource::Hpet(7))
+    } else {
+        hpet_timer(words).map(TickSource::Hpet)
+    }
+}
+
+/// The number of a timer of the HPET, after its name.
+fn hpet_timer(words: &mut Words<'_>) -> Option<u8>
+    ensures value { result ≡ such_that (λ n. nat_lt n 8)
+        (first (decimal_past (codes "hpet")) words.old) }
+    ensures past { OnSome result (words.new ≡ rest words.old) }
+    ensures still { IfNone result (words.new ≡ words.old) }
+{
+    let mut more = words.again();
+    let timer = more.dec_past(b"hpet")?;
+    if timer < 8 {
+        *words = more;
+        Some(timer as u8)
     } else {
         None
     }
