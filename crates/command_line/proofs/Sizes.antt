@@ -9,7 +9,8 @@ use Rattle.clap.specs.declared.error.kind.ErrorKind.TheVariants.{DisplayHelp, Di
 use Rattle.command_line.specs.declared.command.Command.{Command}
 use Rattle.command_line.specs.declared.command.Command.TheVariants.{Replay, Race, Gen, Soak, Unknown}
 use Rattle.command_line.specs.declared.command.Size.{Size}
-use Rattle.command_line.specs.Command.{IsSize, HasSize, in_range, app, number_in, is_used, trace_job, size_of, sized_job, job_named, asked_for, refused_for, by_kinds, command_of}
+use Rattle.std.specs.Option.{option_map_or}
+use Rattle.command_line.specs.Command.{IsSize, HasSize, in_range, app, number_in, is_used, trace_job, size_of, job_named, asked_for, refused_for, by_kinds, command_of}
 
 IsSize-in_range : (key records cpus : ℕ) → in_range records cpus ≡ true → IsSize (record { key = key; records = records; cpus = cpus })
 IsSize-in_range key records cpus t =
@@ -21,12 +22,12 @@ HasSize-cond : (t : Bool) (a b : Command) → HasSize a → HasSize b → HasSiz
 HasSize-cond true a b x y = x
 HasSize-cond false a b x y = y
 
-HasSize-tested : (job : Size → Command) (size : Size) (t : Bool) → (t ≡ true → HasSize (job size)) → HasSize (sized_job job (cond t (Some size) None))
+HasSize-tested : (job : Size → Command) (size : Size) (t : Bool) → (t ≡ true → HasSize (job size)) → HasSize (option_map_or job (cond t (Some size) None) Unknown)
 HasSize-tested job size true has = has refl
 HasSize-tested job size false has = search
 
 HasSize-sized : (job : Size → Command) → ((size : Size) → IsSize size → HasSize (job size)) → (key records cpus : Option ℕ) (shows_state : Bool)
-    → HasSize (sized_job job (size_of key records cpus shows_state))
+    → HasSize (option_map_or job (size_of key records cpus shows_state) Unknown)
 HasSize-sized job has (Some key) (Some records) (Some cpus) false =
     let size : Size = record { key = key; records = records; cpus = cpus } in
     HasSize-tested job size (in_range records cpus) (λ t. has size (IsSize-in_range key records cpus t))
@@ -43,8 +44,8 @@ HasSize-trace command has (Some key) records cpus = search
 
 HasSize-named : (name : Text) (key records cpus : Option ℕ) (shows_state : Bool) → HasSize (job_named name key records cpus shows_state)
 HasSize-named name key records cpus shows_state =
-    let gen : Command = sized_job Gen (size_of key records cpus shows_state) in
-    let soak : Command = sized_job Soak (size_of key records cpus shows_state) in
+    let gen : Command = option_map_or Gen (size_of key records cpus shows_state) Unknown in
+    let soak : Command = option_map_or Soak (size_of key records cpus shows_state) Unknown in
     let soak_or : Command = cond (bytes_eq name (codes "soak")) soak Unknown in
     let gen_or : Command = cond (bytes_eq name (codes "gen")) gen soak_or in
     let race : Command = trace_job (Race shows_state) key records cpus in

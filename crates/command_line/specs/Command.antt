@@ -125,18 +125,13 @@ size_of (Some key) (Some records) (Some cpus) false =
     else None
 size_of key records cpus shows_state = None
 
--- a job that needs the size of a generated trace
-abbrev pub sized_job : (Size → Command) → Option Size → Command
-sized_job job None = Unknown
-sized_job job (Some size) = job size
-
--- the job of this name
+-- the job of this name; `gen` and `soak` need the size of a generated trace
 abbrev pub job_named : Text → Option ℕ → Option ℕ → Option ℕ → Bool → Command
 job_named name key records cpus shows_state =
     if bytes_eq name (codes "replay") then trace_job (Replay shows_state) key records cpus
     else if bytes_eq name (codes "race") then trace_job (Race shows_state) key records cpus
-    else if bytes_eq name (codes "gen") then sized_job Gen (size_of key records cpus shows_state)
-    else if bytes_eq name (codes "soak") then sized_job Soak (size_of key records cpus shows_state)
+    else if bytes_eq name (codes "gen") then option_map_or Gen (size_of key records cpus shows_state) Unknown
+    else if bytes_eq name (codes "soak") then option_map_or Soak (size_of key records cpus shows_state) Unknown
     else Unknown
 
 -- the job of these words, if one is named
