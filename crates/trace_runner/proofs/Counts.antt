@@ -27,6 +27,7 @@ use Rattle.reply_text.specs.declared.ends.Refused.TheVariants.{Invalid, Range}
 use Rattle.trace_text.specs.Records.{IsFittingCall}
 use Rattle.trace_text.specs.declared.records.Call.{Call}
 use Rattle.trace_text.specs.declared.records.Call.TheVariants.{Act}
+use Rattle.trace_text.specs.declared.records.Job.TheVariants.{Ask}
 use Rattle.trace_loop.specs.Progress.{Answer, Goes, Ends}
 use Rattle.trace_loop.specs.Answered.{printed, end_of, state_after, IsAnswered}
 use Rattle.trace_runner.specs.Records.{
@@ -34,7 +35,7 @@ use Rattle.trace_runner.specs.Records.{
   refused_fault,
   refused_access,
   answer_unless,
-  call_answer,
+  job_answer,
   stops,
 }
 use Rattle.trace_runner.specs.Replay.{with_board}
@@ -103,7 +104,7 @@ module _ (text : BoardParts → List ℕ) (changed : BoardParts → BoardParts) 
 -- an access that is taken prints its block
 pub access-printed : (line cpu h : ℕ) (a : Access) (ds : Deliveries) (b : BoardParts) (r : Replay) (reply : Reply) (out : List ℕ)
     → refusal_of b cpu h a ≡ None → reply ≡ reply_of b cpu h a
-    → out ++ block_of ds line (Acted reply) ≡ out ++ printed (with_board (call_answer line cpu h (Act a) ds b) r)
+    → out ++ block_of ds line (Acted reply) ≡ out ++ printed (with_board (job_answer line cpu h (Ask (Act a)) ds b) r)
 access-printed line cpu h a ds b r reply out taken is =
     ap (λ (x : Reply). out ++ block_of ds line (Acted x)) is
     ∙ ap (λ (o : Option Refusal). out ++ printed (with_board

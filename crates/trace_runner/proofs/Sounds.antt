@@ -46,7 +46,6 @@ use Rattle.trace_runner.specs.Records.{
   refused_fault,
   refused_access,
   answer_unless,
-  call_answer,
   ended_answer,
   end_answer,
   job_answer,
@@ -107,7 +106,7 @@ module _ (b : BoardParts) (g line cpu h : ℕ) (ds : Deliveries) where
   read_goes None text m is = (ap (λ (x : Option TimeFault). at_line line (option_map ByCount x)) (timed (with_greatest b g) h is), (m, refl))
   read_goes (Some why) text m is = tt
 
-  call_goes : (call : Call) → Goes_on (at_line line (call_cause b cpu h call)) (after_call b cpu h call) (call_answer line cpu h call ds (with_greatest b g))
+  call_goes : (call : Call) → Goes_on (at_line line (call_cause b cpu h call)) (after_call b cpu h call) (job_answer line cpu h (Ask call) ds (with_greatest b g))
   unfolding after_clock
   call_goes (Act a) = act_goes _ a _ refl
   call_goes (ReadPage page) = read_goes _ _ g refl
@@ -203,7 +202,7 @@ job_kept line rec job s sound few there suits = by_job job suits
         let r : Record = record { line = line; cpu = rec.cpu; h = rec.h; call = call } in
         call_kept line rec call s _ sound cpu (subst (λ (z : ℕ × ℕ). IsFittingCall z.0 z.1 call) (λ k. (sound.cpus k, sound.format k)) suited)
         (same (Ask call))
-        (subst (λ (c : BoardParts). Goes_on (record_fault (now s) r) (after_record (now s) r) (call_answer line rec.cpu rec.h call ds c)) (sym sound.board)
+        (subst (λ (c : BoardParts). Goes_on (record_fault (now s) r) (after_record (now s) r) (job_answer line rec.cpu rec.h (Ask call) ds c)) (sym sound.board)
         (call_goes (now s) sound.greatest line rec.cpu rec.h ds call))
     by_job Save suited = by_end (BySave line rec.cpu rec.h) cpu (same Save)
     by_job (Move khz start gap) rate =

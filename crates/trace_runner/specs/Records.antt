@@ -25,7 +25,6 @@ use Rattle.reply_text.specs.Text.{page_text, clock_text, hv_text, refused_text}
 use Rattle.reply_text.specs.declared.ends.Reason.TheVariants.{CounterFell}
 use Rattle.reply_text.specs.declared.ends.Refused.{Refused}
 use Rattle.reply_text.specs.declared.ends.Refused.TheVariants.{Invalid, Range, Versions, Spent}
-use Rattle.trace_text.specs.declared.records.Call.{Call}
 use Rattle.trace_text.specs.declared.records.Call.TheVariants.{Act, ReadPage, ReadClock, ReadHv}
 use Rattle.trace_text.specs.declared.records.Job.{Job}
 use Rattle.trace_text.specs.declared.records.Job.TheVariants.{Ask, Save, Move}
@@ -69,21 +68,6 @@ abbrev pub answer_unless : Option Refused → ℕ → List ℕ → BoardParts �
 answer_unless (Some why) line text b = Ends (stops line why)
 answer_unless None line text b = Goes text b
 
--- a call: an access, which the board may refuse; or a read, at a count that has a time. A read of a
--- page changes nothing, and one of the clock may raise the greatest reading that was told
-abbrev pub call_answer : ℕ → ℕ → ℕ → Call → Deliveries → BoardParts
-    → Answer BoardParts Verdict
-call_answer line cpu h (Act a) ds b =
-    answer_unless (option_map refused_access (refusal_of b cpu h a)) line
-    (block_of ds line (Acted (reply_of b cpu h a))) (after_access b cpu h a)
-call_answer line cpu h (ReadPage page) ds b =
-    answer_unless (refused_count b h) line (page_text line (page_reply b page h)) b
-call_answer line cpu h (ReadClock page) ds b =
-    answer_unless (refused_count b h) line (clock_text line (clock_reply b page h))
-    (after_clock b page h)
-call_answer line cpu h ReadHv ds b =
-    answer_unless (refused_count b h) line (hv_text line (hv_reply b h)) b
-
 -- a move that is refused: the time after the gap, or the version of a page
 abbrev pub refused_move : MoveFault → Refused
 refused_move (GapOutOfRange ns) = Range ns
@@ -105,10 +89,21 @@ ended_answer None end ds b = Goes (end_text ds end b) (next_board end b)
 abbrev pub end_answer : PhaseEnd → Deliveries → BoardParts → Answer BoardParts Verdict
 end_answer end ds b = ended_answer (end_fault b end) end ds b
 
--- a record, by what it does
+-- a record, by what it does: an access, which the board may refuse; a read, at a count that has a
+-- time; a save or a move. A read of a page changes nothing, and one of the clock may raise the greatest
+-- reading that was told
 abbrev pub job_answer : ℕ → ℕ → ℕ → Job → Deliveries → BoardParts
     → Answer BoardParts Verdict
-job_answer line cpu h (Ask call) ds b = call_answer line cpu h call ds b
+job_answer line cpu h (Ask (Act a)) ds b =
+    answer_unless (option_map refused_access (refusal_of b cpu h a)) line
+    (block_of ds line (Acted (reply_of b cpu h a))) (after_access b cpu h a)
+job_answer line cpu h (Ask (ReadPage page)) ds b =
+    answer_unless (refused_count b h) line (page_text line (page_reply b page h)) b
+job_answer line cpu h (Ask (ReadClock page)) ds b =
+    answer_unless (refused_count b h) line (clock_text line (clock_reply b page h))
+    (after_clock b page h)
+job_answer line cpu h (Ask ReadHv) ds b =
+    answer_unless (refused_count b h) line (hv_text line (hv_reply b h)) b
 job_answer line cpu h Save ds b = end_answer (BySave line cpu h) ds b
 job_answer line cpu h (Move khz start gap) ds b =
     end_answer (ByMove line cpu h (record { khz = khz; start = start; gap = gap })) ds b

@@ -11,7 +11,7 @@ ghost use Rattle.race_phase.specs.declared.records.Answer.TheVariants.{Acted};
 ghost use Rattle.board_core.specs.Pages.{page_reply, clock_reply, after_clock};
 ghost use Rattle.board_core.specs.Hv.{hv_reply};
 ghost use Rattle.reply_text.specs.Text.{page_text, clock_text, hv_text};
-ghost use Rattle.trace_runner.specs.Records.{refused_count, answer_unless, call_answer};
+ghost use Rattle.trace_runner.specs.Records.{refused_count, answer_unless, job_answer};
 ghost use Rattle.trace_runner.specs.Replay.{record_answer, with_board};
 ghost use Rattle.trace_runner.specs.Ready.{Suits};
 
@@ -85,7 +85,7 @@ impl Replay {
         requires cpu { given.now.cpu < self.old.board.cpus }
         requires legal { is_legal self.old.board.cpus self.old.board.format access ≡ true }
         requires open { end.old ≡ None }
-        ensures { let by = call_answer line given.now.cpu given.now.h (Call.Act access)
+        ensures { let by = job_answer line given.now.cpu given.now.h (Job.Ask (Call.Act access))
             self.old.deliveries self.old.board in
             IsAnswered (with_board by self.old) self.old self.new
             out.old.items out.new.items end.new result }

@@ -10,8 +10,9 @@ use Rattle.race_phase.specs.declared.deliveries.Deliveries.{Deliveries}
 use Rattle.race_phase.specs.declared.records.Answer.TheVariants.{Acted}
 use Rattle.race_phase.specs.Blocks.{block_of, edges_text, messages_text}
 use Rattle.trace_text.specs.declared.records.Call.TheVariants.{Act}
+use Rattle.trace_text.specs.declared.records.Job.TheVariants.{Ask}
 use Rattle.trace_loop.specs.Answered.{printed}
-use Rattle.trace_runner.specs.Records.{call_answer}
+use Rattle.trace_runner.specs.Records.{job_answer}
 use Rattle.trace_runner.specs.Replay.{with_board}
 use Rattle.trace_runner.proofs.Counts.{access-printed}
 use Rattle.trace_runner.proofs.replay.Replay.answer_access.Goals as goal
@@ -31,7 +32,7 @@ returns-then-is_empty-2 c =
     let out : List ℕ = c.args.out.now.items in
     let reply : Reply = c.answer.new.reply in
     let printed_now = subst (λ (x : BoardParts). OnOk c.board_line.result (c.board_line.new.out.items
-    ≡ out ++ printed (with_board (call_answer c.args.line cpu h (Act c.args.access) ds x) c.args.self.now))) c.board.view_is
+    ≡ out ++ printed (with_board (job_answer c.args.line cpu h (Ask (Act c.args.access)) ds x) c.args.self.now))) c.board.view_is
     (subst (λ (t : List ℕ). OnOk c.board_line.result (c.board_line.new.out.items ≡ t))
     (ap (λ (t : List ℕ). out ++ t) (sym (quiet ds c.args.line reply (c.is_empty.ensures.0 c.if-is_empty.true)
     (c.is_empty-then-is_empty.ensures.0 c.if-is_empty-2.true)))
