@@ -1,5 +1,5 @@
 -- The usual rows of the table of records, by the bytes that they begin with.
-use Rattle.std.proofs.Common.{◌≡◌, List, [], ℕ, ◌++◌, codes, Option, Some, None, IfSome, Result, Ok, sym, ◌∙◌, ap}
+use Rattle.std.proofs.Common.{◌≡◌, List, [], ℕ, ◌++◌, codes, Option, Some, None, IfSome, Result, Ok, sym, ◌∙◌, ap, refl}
 use Rattle.board_types.specs.declared.access.Access.TheVariants.{Step}
 use Rattle.reply_text.specs.declared.ends.Reason.{Reason}
 use Rattle.trace_text.specs.Tokens.{words_of}
@@ -9,37 +9,33 @@ use Rattle.trace_text.specs.declared.records.Call.TheVariants.{Act}
 use Rattle.trace_text.specs.declared.records.Job.{Job}
 use Rattle.trace_text.specs.declared.records.Job.TheVariants.{Ask}
 
-pub in_first : (body : Body) (left more : List ℕ) → left ≡ codes "in " ++ more
-    → job_of body (words_of left) ≡ in_row body (words_of more)
+pub in_first : (body : Body) (m : List ℕ) → job_of body (words_of (codes "in " ++ m)) ≡ in_row body (words_of m)
 unfolding job_of words_of
-in_first body left more e = ap (λ (l : List ℕ). job_of body (words_of l)) e
+in_first body m = refl
 
-pub out_first : (body : Body) (left more : List ℕ) → left ≡ codes "out " ++ more
-    → job_of body (words_of left) ≡ out_row body (words_of more)
+pub out_first : (body : Body) (m : List ℕ) → job_of body (words_of (codes "out " ++ m)) ≡ out_row body (words_of m)
 unfolding job_of words_of
-out_first body left more e = ap (λ (l : List ℕ). job_of body (words_of l)) e
+out_first body m = refl
 
-pub clock_first : (body : Body) (left more : List ℕ) → left ≡ codes "clock " ++ more
-    → job_of body (words_of left) ≡ clock_row body (words_of more)
+pub clock_first : (body : Body) (m : List ℕ) → job_of body (words_of (codes "clock " ++ m)) ≡ clock_row body (words_of m)
 unfolding job_of words_of
-clock_first body left more e = ap (λ (l : List ℕ). job_of body (words_of l)) e
+clock_first body m = refl
 
-pub ack_first : (body : Body) (left more : List ℕ) → left ≡ codes "ack " ++ more
-    → job_of body (words_of left) ≡ ack_row body (words_of more)
+pub ack_first : (body : Body) (m : List ℕ) → job_of body (words_of (codes "ack " ++ m)) ≡ ack_row body (words_of m)
 unfolding job_of words_of
-ack_first body left more e = ap (λ (l : List ℕ). job_of body (words_of l)) e
+ack_first body m = refl
 
-pub hr_first : (body : Body) (left more : List ℕ) → left ≡ codes "hr " ++ more
-    → job_of body (words_of left) ≡ hr_row body (words_of more)
+pub hr_first : (body : Body) (m : List ℕ) → job_of body (words_of (codes "hr " ++ m)) ≡ hr_row body (words_of m)
 unfolding job_of words_of
-hr_first body left more e = ap (λ (l : List ℕ). job_of body (words_of l)) e
+hr_first body m = refl
 
--- what a row made of the words after the name
-pub by_row : (row : List (List ℕ) → Result Job Reason) (body : Body) (left more : List ℕ) (ws : List (List ℕ)) (r : Option Job)
-    → job_of body (words_of left) ≡ row (words_of more) → ws ≡ words_of more
+-- what the row of a name made of the words after it
+pub by_row : (row : List (List ℕ) → Result Job Reason) (body : Body) (name left more : List ℕ) (ws : List (List ℕ)) (r : Option Job)
+    → ((m : List ℕ) → job_of body (words_of (name ++ m)) ≡ row (words_of m)) → left ≡ name ++ more → ws ≡ words_of more
     → IfSome r (λ j. row ws ≡ Ok j) → IfSome r (λ j. job_of body (words_of left) ≡ Ok j)
-by_row row body left more ws None first same job = tt
-by_row row body left more ws (Some j) first same job = first ∙ ap row (sym same) ∙ job
+by_row row body name left more ws None first e same job = tt
+by_row row body name left more ws (Some j) first e same job =
+    ap (λ (l : List ℕ). job_of body (words_of l)) e ∙ first more ∙ ap row (sym same) ∙ job
 
 -- a step, with nothing after its name
 step_alone : (body : Body) (left more : List ℕ) → left ≡ codes "step" ++ more → more ≡ []

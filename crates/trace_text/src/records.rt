@@ -11,7 +11,7 @@ ghost use Rattle.trace_text.specs.Records.{
 ghost use Rattle.trace_text.specs.private.Reads.{IsReadInto};
 
 use crate::groups::job_in;
-use crate::usual::usual_job;
+use crate::usual::{usual_job, usual_read};
 use crate::words::Words;
 use board_types::Access;
 use reply_text::Reason;
@@ -166,13 +166,19 @@ fn read_job(body: &Body, words: Words<'_>, into: &mut Job) -> bool
     read_job_apart(body, words.again(), into)
 }
 
-/// The same, apart from where it is called.
+/// The same, apart from where it is called. A read of the HPET is read by its bytes, and the rest by its words.
 #[inline(never)]
 fn read_job_apart(body: &Body, words: Words<'_>, into: &mut Job) -> bool
     ensures job { OnTrue result (job_of body.now words.entry ≡ Ok into.new) }
     ensures cause { OnFalse result (IsErr (job_of body.now words.entry)) }
     ensures valid { OnTrue result (IsJob body.now into.new) }
 {
+    if let Some(left) = words.left()
+        && let Some(job) = usual_read(body, left)
+    {
+        *into = job;
+        return true;
+    }
     match job_in(body, words) {
         Ok(job) => {
             *into = job;

@@ -9,7 +9,8 @@ use crate::records::{Body, Call, Job};
 use crate::words::Words;
 use board_types::Access;
 
-/// What most records do, by the bytes after the counter; None also for what others do.
+/// What most records do, by the bytes after the counter; None also for what others do. It is small, so that the answer to
+/// a line is inlined in the loop over the lines.
 #[inline(always)]
 pub(crate) fn usual_job(body: &Body, left: &[u8]) -> Option<Job>
     ensures job { IfSome result (λ j. job_of body.now (words_of left.now) ≡ Ok j) }
@@ -36,20 +37,35 @@ pub(crate) fn usual_job(body: &Body, left: &[u8]) -> Option<Job>
             let line = after(left, b"ack ")?;
             usual_ack(body, &mut Words::new(line))
         }
-        [b'h', ..] => {
-            let place = after(left, b"hr ")?;
-            usual_hr(body, &mut Words::new(place))
-        }
         _ => None,
     }
 }
 
-/// The bytes after others, if these come first.
+/// A read of the HPET, by the bytes after the counter; None also for what others do.
+#[inline(always)]
+pub(crate) fn usual_read(body: &Body, left: &[u8]) -> Option<Job>
+    ensures job { IfSome result (λ j. job_of body.now (words_of left.now) ≡ Ok j) }
+    ensures valid { IfSome result (IsJob body.now) }
+{
+    let place = after(left, b"hr ")?;
+    usual_hr(body, &mut Words::new(place))
+}
+
+/// The bytes after others, if these come first. A loop, which the compiler unrolls for a name that it knows, where
+/// `strip_prefix` is a call.
 #[inline(always)]
 fn after<'a>(text: &'a [u8], front: &[u8]) -> Option<&'a [u8]>
     ensures { IfSome result (λ rest. text.now ≡ front.now ++ rest.now) }
 {
-    text.strip_prefix(front)
+    if text.len() < front.len() {
+        return None;
+    }
+    for i in 0..front.len() {
+        if text[i] != front[i] {
+            return None;
+        }
+    }
+    Some(&text[front.len()..])
 }
 
 /// A step, if nothing comes after its name.

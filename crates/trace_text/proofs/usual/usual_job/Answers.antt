@@ -1,36 +1,27 @@
-use Rattle.trace_text.specs.Records.{in_row, out_row, clock_row, ack_row, hr_row}
-use Rattle.trace_text.proofs.UsualRows.{in_first, out_first, clock_first, ack_first, hr_first, by_row, by_step}
+use Rattle.std.proofs.Common.{codes}
+use Rattle.trace_text.specs.Records.{in_row, out_row, clock_row, ack_row}
+use Rattle.trace_text.proofs.UsualRows.{in_first, out_first, clock_first, ack_first, by_row, by_step}
 use Rattle.trace_text.proofs.usual.usual_job.Goals as goal
 
 pub returns-in_ok-port-in-105-clause-job : goal.returns-in_ok-port-in-105-clause-job
 returns-in_ok-port-in-105-clause-job c =
-    let first = in_first c.args.body.now c.args.left.now c.in_ok-port-in-105.port.now c.in_ok-port-in-105.ensures in
-    by_row (in_row c.args.body.now) c.args.body.now c.args.left.now c.in_ok-port-in-105.port.now c.new.result c.usual_in.result first
-    c.new.ensures c.usual_in.ensures.job
+    by_row (in_row c.args.body.now) c.args.body.now (codes "in ") c.args.left.now c.in_ok-port-in-105.port.now c.new.result c.usual_in.result
+    (in_first c.args.body.now) c.in_ok-port-in-105.ensures c.new.ensures c.usual_in.ensures.job
 
 pub returns-in_ok-port-in-111-clause-job : goal.returns-in_ok-port-in-111-clause-job
 returns-in_ok-port-in-111-clause-job c =
-    let first = out_first c.args.body.now c.args.left.now c.in_ok-port-in-111.port.now c.in_ok-port-in-111.ensures in
-    by_row (out_row c.args.body.now) c.args.body.now c.args.left.now c.in_ok-port-in-111.port.now c.new-in-111.result c.usual_out.result first
-    c.new-in-111.ensures c.usual_out.ensures.job
+    by_row (out_row c.args.body.now) c.args.body.now (codes "out ") c.args.left.now c.in_ok-port-in-111.port.now c.new-in-111.result c.usual_out.result
+    (out_first c.args.body.now) c.in_ok-port-in-111.ensures c.new-in-111.ensures c.usual_out.ensures.job
 
 pub returns-in_ok-page-in-99-clause-job : goal.returns-in_ok-page-in-99-clause-job
 returns-in_ok-page-in-99-clause-job c =
-    let first = clock_first c.args.body.now c.args.left.now c.in_ok-page-in-99.page.now c.in_ok-page-in-99.ensures in
-    by_row (clock_row c.args.body.now) c.args.body.now c.args.left.now c.in_ok-page-in-99.page.now c.new-in-99.result c.usual_clock.result first
-    c.new-in-99.ensures c.usual_clock.ensures.job
+    by_row (clock_row c.args.body.now) c.args.body.now (codes "clock ") c.args.left.now c.in_ok-page-in-99.page.now c.new-in-99.result c.usual_clock.result
+    (clock_first c.args.body.now) c.in_ok-page-in-99.ensures c.new-in-99.ensures c.usual_clock.ensures.job
 
 pub returns-in_ok-line-in-97-clause-job : goal.returns-in_ok-line-in-97-clause-job
 returns-in_ok-line-in-97-clause-job c =
-    let first = ack_first c.args.body.now c.args.left.now c.in_ok-line-in-97.line.now c.in_ok-line-in-97.ensures in
-    by_row (ack_row c.args.body.now) c.args.body.now c.args.left.now c.in_ok-line-in-97.line.now c.new-in-97.result c.usual_ack.result first
-    c.new-in-97.ensures c.usual_ack.ensures.job
-
-pub returns-in_ok-place-in-104-clause-job : goal.returns-in_ok-place-in-104-clause-job
-returns-in_ok-place-in-104-clause-job c =
-    let first = hr_first c.args.body.now c.args.left.now c.in_ok-place-in-104.place.now c.in_ok-place-in-104.ensures in
-    by_row (hr_row c.args.body.now) c.args.body.now c.args.left.now c.in_ok-place-in-104.place.now c.new-in-104.result c.usual_hr.result first
-    c.new-in-104.ensures c.usual_hr.ensures.job
+    by_row (ack_row c.args.body.now) c.args.body.now (codes "ack ") c.args.left.now c.in_ok-line-in-97.line.now c.new-in-97.result c.usual_ack.result
+    (ack_first c.args.body.now) c.in_ok-line-in-97.ensures c.new-in-97.ensures c.usual_ack.ensures.job
 
 pub returns-in_ok-more-in-115-clause-job : goal.returns-in_ok-more-in-115-clause-job
 returns-in_ok-more-in-115-clause-job c = by_step c.args.body.now c.args.left.now c.in_ok-more-in-115.more.now c.usual_step.result c.in_ok-more-in-115.ensures c.usual_step.ensures.job
