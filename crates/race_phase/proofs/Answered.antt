@@ -64,7 +64,7 @@ module _ (s : BoardParts) (r : Record) (p q : PassKnown) where
         subst (λ (call : Call). CallMade s p.number r.cpu r.h call (Acted reply) (e ∷ [])) (sym is) refl,
         made_of p q e a,
         [],
-        refl,
+        none_tried s.cpus,
         a.misses ∙ sym (append-nil p.misses),
       )
 
