@@ -27,9 +27,10 @@ use Rattle.std.proofs.Common.{
   Bool,
   if◌then◌else◌,
   All,
+  map,
 }
 use Rattle.std.proofs.lemmas.Bool.{cases_lt, lt-ltb, le-ltb}
-use Rattle.std.proofs.lemmas.List.{get_or_past}
+use Rattle.std.proofs.lemmas.List.{get_or_past, length-map}
 use native.Mathlib.Decide.{dec_le}
 use Rattle.race_phase.specs.declared.deliveries.Deliveries.{Deliveries}
 use Rattle.board_types.specs.declared.access.Access.{Access}
@@ -71,6 +72,8 @@ use Rattle.race_phase.proofs.Counts.{
 }
 use Rattle.race_phase.proofs.Settle.{rpart, rpart_whole, Exact, exact, exact_all}
 use Rattle.race_phase.proofs.Taken.{IsSound, filed}
+use Rattle.race_phase.specs.Tallies.{TallyParts, IsTally}
+use Rattle.std.proofs.Math.ListN.{get_or-map}
 
 -- the entries weigh what the records weigh
 shown_exact : (s : BoardParts) (ds : Deliveries) (w : Entry → ℕ) (v : Record → ℕ) (rs : List Record) (h : List Entry) (n k : ℕ) (out : List ℕ)
@@ -164,6 +167,33 @@ places_records b (r ∷ rs) = places_records (after_record b r) rs ∙ places_ca
     places_call cpu h (Act a) = length-processors b cpu h a
     places_call cpu h _ = refl
 
+-- the tally of a board
+abbrev tally_of : BoardParts → TallyParts
+tally_of b = record {
+  format = b.format;
+  cpus = b.cpus;
+  anchor = b.anchor;
+  host = b.host;
+  accesses = b.accesses;
+  wall_version = b.wall_version;
+  hv_version = b.hv.version;
+  versions = map (λ (p : ProcessorParts). p.version) b.processors;
+}
+
+tally_is : (b : BoardParts) → b.cpus ≤ length b.processors → IsTally b (tally_of b)
+tally_is b places = record {
+  format = refl;
+  cpus = refl;
+  anchor = refl;
+  host = refl;
+  accesses = refl;
+  wall_version = refl;
+  hv_version = refl;
+  versions = λ k. get_or-map (λ (p : ProcessorParts). p.version) b.processors k no_processor;
+  places = places;
+  own = (let l = length-map b.processors (λ (p : ProcessorParts). p.version) in omega arith);
+}
+
 -- the workers leave the counts that file order leaves
 module _ (s : BoardParts) (ds : Deliveries) (rs : List Record) (mid : BoardParts) (out : List ℕ) (sound : IsSound s)
     (fit : All (IsFitting s.cpus s.format) rs) (t : PhaseTold s ds rs mid out) where
@@ -224,15 +254,26 @@ module _ (s : BoardParts) (ds : Deliveries) (rs : List Record) (mid : BoardParts
       b.high l.0 (total (past x) ∙ l.1)
 
   pub phase_alike : AreAlike (after_records s rs) mid
-  phase_alike = record {
-    counts = record {
-      machine = machine_records s rs ∙ sym machine_mid;
-      accesses = same_number 0 (λ b. b.accesses) any_access 1 _ raises_accesses (omega arith);
-      wall = same_number 0 (λ b. b.wall_version) publishes_words 2 _ raises_wall (omega arith);
-      hv = same_number 0 (λ b. b.hv.version) publishes_reference 2 _ raises_hv (omega arith);
-      pages = same_page;
-    };
-    host = (let l = host_le in let g = host_ge in omega arith);
-    places = (let p = places_records s rs in let m = ap (λ (x : Machine). x.cpus) (machine_records s rs) in let q = sound.places in omega arith);
-    others = (let p = places_mid in let m = ap (λ (x : Machine). x.cpus) machine_mid in let q = sound.places in omega arith);
-  }
+  phase_alike =
+      let b : BoardParts = after_records s rs in
+      let machine = machine_records s rs ∙ sym machine_mid in
+      let host : b.host ≡ mid.host = (let l = host_le in let g = host_ge in omega arith) in
+      let own : mid.cpus ≤ length mid.processors =
+      (let p = places_mid in let m = ap (λ (x : Machine). x.cpus) machine_mid in let q = sound.places in omega arith) in
+      let t : TallyParts = tally_of mid in
+      let is : IsTally mid t = tally_is mid own in (
+        t,
+        record {
+          format = ap (λ (x : Machine). x.format) (sym machine);
+          cpus = ap (λ (x : Machine). x.cpus) (sym machine);
+          anchor = ap (λ (x : Machine). x.anchor) (sym machine);
+          host = sym host;
+          accesses = sym (same_number 0 (λ c. c.accesses) any_access 1 _ raises_accesses (omega arith));
+          wall_version = sym (same_number 0 (λ c. c.wall_version) publishes_words 2 _ raises_wall (omega arith));
+          hv_version = sym (same_number 0 (λ c. c.hv.version) publishes_reference 2 _ raises_hv (omega arith));
+          versions = λ k. is.versions k ∙ sym (same_page k);
+          places = (let p = places_records s rs in let m = ap (λ (x : Machine). x.cpus) (machine_records s rs) in let q = sound.places in omega arith);
+          own = is.own;
+        },
+        is,
+      )

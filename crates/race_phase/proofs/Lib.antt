@@ -4,6 +4,7 @@ pub mod Checked
 pub mod Counts
 pub mod Ended
 mod Messages
+mod Moves
 pub mod Pieces
 pub mod Same
 pub mod Settle

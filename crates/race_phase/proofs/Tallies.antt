@@ -66,7 +66,7 @@ use Rattle.race_phase.specs.private.Tallied.{
   moved_in,
 }
 use Rattle.race_phase.proofs.Alike.{host_after}
-use Rattle.race_phase.proofs.Same.{
+use Rattle.race_phase.proofs.Moves.{
   published_places,
   published_here,
   published_else,

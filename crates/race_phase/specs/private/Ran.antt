@@ -1,14 +1,14 @@
 -- A phase whose records were run, and a phase that was run after a text.
-use Rattle.std.specs.Prelude.{◌≡◌, ℕ, ◌≤◌, List, [], ◌++◌, length}
+use Rattle.std.specs.Prelude.{◌≡◌, ℕ, ◌≤◌, List, [], ◌++◌}
 use Rattle.race_phase.specs.declared.deliveries.Deliveries.{Deliveries}
 use Rattle.race_phase.specs.declared.records.Record.{Record}
 use Rattle.board_types.specs.declared.parts.BoardParts.{BoardParts}
-use Rattle.board_history.specs.Counts.{SameCounts}
 use Rattle.board_history.specs.History.{board_after, entries_of, IsLegal, Opens}
 use Rattle.board_history.specs.declared.entry.Entry.{Entry}
 use Rattle.race_phase.specs.declared.phases.Phase.{Phase}
 use Rattle.race_phase.specs.Calls.{Shown}
 use Rattle.race_phase.specs.Phases.{after_phase, PhaseEnded}
+use Rattle.race_phase.specs.Tallies.{TallyParts, IsTally}
 
 -- there is one legal history, which opens with the opening state and leaves this one. It has the
 -- entries of the records and no others, those of a processor in their order, and this is their text
@@ -21,13 +21,9 @@ pub record PhaseTold (opening : BoardParts) (ds : Deliveries) (rs : List Record)
   pub none_else : (n : ℕ) → opening.cpus ≤ n → entries_of n h ≡ []
   pub shown : Shown opening ds rs h 0 opening.cpus out
 
--- two boards that refuse alike: of the same counts and the same time, and with a place for each
--- processor
-pub record AreAlike (b c : BoardParts) : Type 0 where
-  pub counts : SameCounts b c
-  pub host : b.host ≡ c.host
-  pub places : b.cpus ≤ length b.processors
-  pub others : c.cpus ≤ length c.processors
+-- two boards that refuse alike: one tally has the counts of both
+abbrev pub AreAlike : BoardParts → BoardParts → Type 0
+AreAlike b c = (t : TallyParts) × IsTally b t × IsTally c t
 
 -- one phase more after a text, with a board that refuses as that of file order does
 abbrev pub PhaseRan : Deliveries → BoardParts → Phase → BoardParts → List ℕ → List ℕ
