@@ -1,5 +1,5 @@
--- Why an access is refused, and that boards of the same counts refuse alike.
-use Rattle.std.proofs.Common.{◌≡◌, ◌⊎◌, ℕ, ◌≤◌, ltb, leb, List, get_or, refl, sym, ap, ◌∙◌, arith, Bool, true, false, cond, Option, None, Some, option_map, inl, inr}
+-- Why an access is refused.
+use Rattle.std.proofs.Common.{◌≡◌, ◌⊎◌, ℕ, ◌≤◌, ltb, leb, List, get_or, refl, arith, Bool, true, false, cond, Option, None, Some, option_map, inl, inr}
 use Rattle.std.specs.Option.{option_or}
 use Rattle.std.proofs.lemmas.Bool.{ltb-true, leb-true}
 use Rattle.clk_units.specs.declared.ranges.TheConstants.{RANGE_NS}
@@ -18,7 +18,7 @@ use Rattle.board_core.specs.Pages.{published_by}
 use Rattle.board_core.specs.Wall.{publishes_wall}
 use Rattle.board_core.specs.Hv.{publishes_hv}
 use Rattle.board_core.specs.Refusals.{version_at, raised_version, spent_version, refusal_of}
-use Rattle.board_history.specs.Counts.{HasNoTime, IsAtLastVersion, SameCounts}
+use Rattle.board_history.specs.Counts.{HasNoTime, IsAtLastVersion}
 
 -- one of two causes
 this_or_rest : (b : Bool) (x f : Refusal) (rest : Option Refusal) → cond b (Some x) rest ≡ Some f → (b ≡ true) ⊎ (rest ≡ Some f)
@@ -79,26 +79,3 @@ refused_why b cpu h a f is = elim (time_or_rest b.anchor h f _ is) [
     ]
   ]
 ]
-
--- a refusal, by the anchor, the version that would rise, and the number of accesses
-refusal_by : Anchor → ℕ → Option ℕ → ℕ → Option Refusal
-refusal_by anchor h v accesses =
-    option_or (option_map NoTime (time_fault anchor h)) (spent_version v (cond (leb MOST_ACCESSES accesses) (Some (Spent accesses)) None))
-
-refusal_of-by : (b : BoardParts) (cpu h : ℕ) (a : Access)
-    → refusal_of b cpu h a ≡ refusal_by b.anchor h (raised_version b.processors b.wall_version b.hv.version cpu a) b.accesses
-unfolding refusal_of refusal_by
-refusal_of-by b cpu h a = refl
-
-same_version_at : (o : Option ℕ) (ps qs : List ProcessorParts) → ((k : ℕ) → (get_or ps k no_processor).version ≡ (get_or qs k no_processor).version)
-    → version_at o ps ≡ version_at o qs
-same_version_at None ps qs same = refl
-same_version_at (Some k) ps qs same = ap (λ (n : ℕ). Some n) (same k)
-
-pub same_refusal : (b c : BoardParts) (cpu h : ℕ) (a : Access) → SameCounts b c → refusal_of b cpu h a ≡ refusal_of c cpu h a
-same_refusal b c cpu h a same =
-    let raised : raised_version b.processors b.wall_version b.hv.version cpu a ≡ raised_version c.processors c.wall_version c.hv.version cpu a =
-    λ i. cond (publishes_wall a) (Some (same.wall i))
-    (cond (publishes_hv a) (Some (same.hv i)) (same_version_at (published_by cpu a) b.processors c.processors same.pages i)) in
-    refusal_of-by b cpu h a
-    ∙ ((λ i. refusal_by (same.machine i).anchor h (raised i) (same.accesses i)) ∙ sym (refusal_of-by c cpu h a))

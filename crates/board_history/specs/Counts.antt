@@ -10,7 +10,6 @@ use Rattle.board_core.specs.Pages.{published_by}
 use Rattle.board_core.specs.Wall.{publishes_wall}
 use Rattle.board_core.specs.Hv.{publishes_hv}
 use Rattle.board_core.specs.Tsc.{processor_at}
-use Rattle.board_history.specs.Machine.{machine_of}
 
 -- a count of the host's counter has no time: it lies before the anchor's, or its time is past the
 -- range
@@ -24,11 +23,3 @@ IsAtLastVersion b cpu a =
     ((publishes_wall a ≡ true) × (LAST_VERSION ≤ b.wall_version))
     ⊎ (((k : ℕ) × (published_by cpu a ≡ Some k) × (LAST_VERSION ≤ (processor_at b k).version))
     ⊎ ((publishes_hv a ≡ true) × (LAST_VERSION ≤ b.hv.version)))
-
--- two boards that refuse alike
-pub record SameCounts (b c : BoardParts) : Type 0 where
-  pub machine : machine_of b ≡ machine_of c
-  pub accesses : b.accesses ≡ c.accesses
-  pub wall : b.wall_version ≡ c.wall_version
-  pub hv : b.hv.version ≡ c.hv.version
-  pub pages : (k : ℕ) → (processor_at b k).version ≡ (processor_at c k).version
