@@ -39,10 +39,14 @@ spent_version None next = next
 spent_version (Some version) next =
     if nat_le LAST_VERSION version then Some (VersionsSpent version) else next
 
+-- the accesses are spent
+abbrev pub spent_accesses : ℕ → Option Refusal
+spent_accesses n = if nat_le MOST_ACCESSES n then Some (Spent n) else None
+
 -- why an access at count h is refused, the causes in this order: the count has no time; a version is
 -- spent; the accesses are spent
 unfoldable pub refusal_of : BoardParts → ℕ → ℕ → Access → Option Refusal
 refusal_of b cpu h a =
     option_or (option_map NoTime (time_fault b.anchor h))
     (spent_version (raised_version b.processors b.wall_version b.hv.version cpu a)
-    (if nat_le MOST_ACCESSES b.accesses then Some (Spent b.accesses) else None))
+    (spent_accesses b.accesses))

@@ -326,7 +326,8 @@ fn wall_number_after(a: Access, number: u64) -> u64
 }
 
 /// The version of the wall clock's words after an access.
-fn wall_version_after(a: Access, version: u32) -> u32
+#[inline(always)]
+pub fn wall_version_after(a: Access, version: u32) -> u32
     requires { IsTrue (publishes_wall a) → version < LAST_VERSION }
     ensures { result ≡ wall_version_after a version }
 {

@@ -28,6 +28,7 @@ mod processors;
 mod refusals;
 mod rises;
 
+pub use acts::wall_version_after;
 pub use board::BoardState;
 pub use board_types::{
     APIC_FORMAT, Access, BoardParts, HV_FORMAT, HvParts, LAST_FORMAT, LAST_VERSION, MESSAGE_FORMAT,
@@ -40,6 +41,7 @@ pub use hv::{NO_HV, publishes_hv};
 pub use lag::{Lag, NO_LAG, is_passive};
 pub use lazy::LazyBoard;
 pub use processors::published_by;
+pub use refusals::{publishes_wall, spent_accesses, spent_version};
 
 #[cfg(test)]
 mod tests;

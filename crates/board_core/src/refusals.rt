@@ -22,7 +22,13 @@ ghost use Rattle.board_types.specs.declared.reply.Refusal.TheVariants.{Spent};
 ghost use Rattle.board_core.specs.Time.{time_of_access, HasTime};
 ghost use Rattle.board_core.specs.Pages.{published_by};
 ghost use Rattle.board_core.specs.Wall.{publishes_wall};
-ghost use Rattle.board_core.specs.Refusals.{version_at, raised_version, spent_version, refusal_of};
+ghost use Rattle.board_core.specs.Refusals.{
+  version_at,
+  raised_version,
+  spent_version,
+  spent_accesses,
+  refusal_of,
+};
 
 use crate::acts::writes;
 use crate::board::BoardState;
@@ -53,7 +59,7 @@ impl BoardState {
             Ok(to) => to,
         };
         let version = raised_version(&self.processors, self.wall_version, self.hv.version, cpu, a);
-        match spent_version(version, self.spent()) {
+        match spent_version(version, spent_accesses(self.accesses)) {
             Some(refusal) => Err(refusal),
             None => Ok(to),
         }
@@ -73,20 +79,6 @@ impl BoardState {
         match time_anew(self.anchor, h) {
             Ok(ns) => Ok(ns.max(self.time_ns)),
             Err(fault) => Err(fault),
-        }
-    }
-
-    /// Whether the accesses are spent.
-    fn spent(&self) -> Option<Refusal>
-        ensures { result ≡ (if nat_le MOST_ACCESSES self.now.accesses
-            then Some (Spent self.now.accesses) else None) }
-    {
-        if self.accesses >= MOST_ACCESSES {
-            Some(Refusal::Spent {
-                number: self.accesses,
-            })
-        } else {
-            None
         }
     }
 }
@@ -127,7 +119,7 @@ fn nanoseconds(anchor: Anchor, h: u64) -> Option<u64>
 
 /// Whether an access publishes the words of the wall clock.
 #[inline(always)]
-pub(crate) fn publishes_wall(a: Access) -> bool
+pub fn publishes_wall(a: Access) -> bool
     ensures { result ≡ publishes_wall a }
 {
     match a {
@@ -172,9 +164,9 @@ fn raised_version(
     }
 }
 
-/// The refusal where a version is the last one, else the next cause.
+/// The refusal where the version that an access would raise is the last one, else the next cause.
 #[inline(always)]
-fn spent_version(version: Option<u32>, next: Option<Refusal>) -> Option<Refusal>
+pub fn spent_version(version: Option<u32>, next: Option<Refusal>) -> Option<Refusal>
     ensures { result ≡ spent_version version next }
 {
     match version {
@@ -188,5 +180,17 @@ fn spent_version(version: Option<u32>, next: Option<Refusal>) -> Option<Refusal>
             }
         }
         None => next,
+    }
+}
+
+/// The refusal where a board has taken as many accesses as it takes.
+#[inline(always)]
+pub fn spent_accesses(accesses: u64) -> Option<Refusal>
+    ensures { result ≡ spent_accesses accesses }
+{
+    if accesses >= MOST_ACCESSES {
+        Some(Refusal::Spent { number: accesses })
+    } else {
+        None
     }
 }

@@ -103,7 +103,7 @@ May before (PageRead pass cpu h page locked) =
 May before (HvRead pass h page locked) = hv_in (board_after before).hv ≡ page
 May before (Clamp pass cpu reading clock) =
     Reads (ratio_in (board_after before)) (last_or None (entries_of pass before)) cpu reading
-    × (clock ≡ max reading (board_after before).greatest)
+    × (clock ≡ max reading (floor_after before))
 
 -- each entry may come after those before it
 abbrev pub LegalFrom : List Entry → List Entry → Type 0

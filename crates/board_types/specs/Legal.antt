@@ -1,6 +1,7 @@
 -- The accesses that a board takes.
 use Rattle.std.specs.Prelude.{ℕ, ◌*◌, ◌^◌, Bool, true, ◌&&◌, ◌||◌, ◌==◌, nat_lt, nat_le}
 use Rattle.irq_edges.specs.Lines.{is_line}
+use Rattle.pit_readback.specs.Ports.{is_pit_port}
 use Rattle.hpet_registers.specs.Access.{is_access_width}
 use Rattle.board_types.specs.declared.access.TheConstants.{
   MSR_TSC,
@@ -39,8 +40,7 @@ use Rattle.board_types.specs.Setup.{timers_of}
 
 -- the ports of the 8254 (40h to 43h, 61h) and of the MC146818 (70h, 71h)
 abbrev pub is_port : ℕ → Bool
-is_port p =
-    p == 0x40 || p == 0x41 || p == 0x42 || p == 0x43 || p == 0x61 || p == 0x70 || p == 0x71
+is_port p = is_pit_port p || p == 0x70 || p == 0x71
 
 -- the MSRs of a local APIC's timer (Intel SDM, volume 3, "x2APIC Register Address Space")
 abbrev pub is_apic_msr : ℕ → Bool

@@ -13,6 +13,7 @@ ghost use Rattle.board_types.specs.Legal.{
 };
 
 use crate::setup::{APIC_FORMAT, HV_FORMAT, timers_of};
+use pit_readback::is_pit_port;
 
 /// IA32_TIME_STAMP_COUNTER: the processor's TSC (Intel SDM, volume 4).
 pub const MSR_TSC: u32 = 0x10;
@@ -122,10 +123,11 @@ impl Access {
 }
 
 /// Whether a port is one of the 8254 (40h to 43h, 61h) or of the MC146818 (70h, 71h).
-fn is_port(port: u8) -> bool
+#[inline(always)]
+pub fn is_port(port: u8) -> bool
     ensures { result ≡ is_port port }
 {
-    matches!(port, 0x40 | 0x41 | 0x42 | 0x43 | 0x61 | 0x70 | 0x71)
+    is_pit_port(port) || port == 0x70 || port == 0x71
 }
 
 /// Whether an MSR is one that a format has.
@@ -158,15 +160,17 @@ fn is_hv_msr(msr: u32) -> bool
     msr == MSR_HV_TIME_REF_COUNT || msr == MSR_HV_REFERENCE_TSC
 }
 
-/// Whether a line is one of the six.
-fn is_line(line: u8) -> bool
+/// Whether a line is one of the six: 0, 8 and 20 to 23.
+#[inline(always)]
+pub fn is_line(line: u8) -> bool
     ensures { result ≡ is_line line }
 {
     matches!(line, 0 | 8 | 20 | 21 | 22 | 23)
 }
 
-/// Whether an access to the HPET lies in its block, with a width that a processor has.
-fn is_hpet_place(offset: u16, width: u8) -> bool
+/// Whether an access to the HPET lies in its block of 400h bytes, with a width that a processor has: 1, 2, 4 or 8 bytes.
+#[inline(always)]
+pub fn is_hpet_place(offset: u16, width: u8) -> bool
     ensures { result ≡ is_hpet_place offset width }
 {
     offset <= 0x3ff && matches!(width, 1 | 2 | 4 | 8)

@@ -37,8 +37,8 @@ not-ours b cpu h p q byte e f =
 wide-port : (p : ℕ) → 255 < p → is_port p ≡ false
 wide-port p wide =
     let no : (k : ℕ) → k ≤ 255 → eqb p k ≡ false = λ k le. ne_eqb p k (λ same. omega (arith, same, le, wide)) in
-    rw (no 0x40 (omega arith)) (rw (no 0x41 (omega arith)) (rw (no 0x42 (omega arith)) (rw (no 0x43 (omega arith))
-    (rw (no 0x61 (omega arith)) (rw (no 0x70 (omega arith)) (no 0x71 (omega arith)))))))
+    rw (le-leb 0x40 p (omega arith)) (rw (lt-leb p 0x43 (omega arith))
+    (rw (no 0x61 (omega arith)) (rw (no 0x70 (omega arith)) (no 0x71 (omega arith)))))
 
 pub told-narrowed : (b : CallerBoard) (cpu h port byte : ℕ) → told b cpu h (PortOut (narrowed port) byte) ≡ told b cpu h (PortOut port byte)
 told-narrowed b cpu h port byte = elim (cases_lt 255 port) [

@@ -5,6 +5,7 @@ use Rattle.clk_units.specs.Ranges.{IsKhz}
 use Rattle.race_phase.specs.declared.deliveries.Deliveries.{Deliveries}
 use Rattle.board_types.specs.declared.access.Access.TheVariants.{Step}
 use Rattle.board_types.specs.declared.parts.BoardParts.{BoardParts}
+use Rattle.board_types.specs.declared.reply.Reply.{Reply}
 use Rattle.board_devices.specs.Run.{run}
 use Rattle.board_core.specs.Access.{after_access, reply_of}
 use Rattle.board_core.specs.Refusals.{refusal_of}
@@ -19,6 +20,7 @@ use Rattle.race_phase.specs.declared.faults.Cause.TheVariants.{Move as ByMove, A
 use Rattle.race_phase.specs.declared.faults.Fault.{Fault}
 use Rattle.race_phase.specs.declared.phases.End.{End}
 use Rattle.race_phase.specs.declared.phases.End.TheVariants.{Finish, Save, Move}
+use Rattle.race_phase.specs.declared.phases.NewHost.{NewHost}
 use Rattle.race_phase.specs.declared.phases.Phase.{Phase}
 use Rattle.race_phase.specs.Blocks.{edges_text, messages_text}
 use Rattle.race_phase.specs.Calls.{IsFitting, Shown}
@@ -73,22 +75,28 @@ end_entries Finish b = []
 end_entries (Save line cpu h) b = Board cpu cpu h Step (reply_of b cpu h Step) ∷ []
 end_entries (Move line cpu h host) b = Board cpu cpu h Step (reply_of b cpu h Step) ∷ []
 
--- what the end of a phase prints: a save the edges and the messages of its access, and the state
--- after it; a move the edges of its access and those of the gap, likewise the messages, and the time
--- after it
+-- the block of a save: the edges and the messages of its access, and the state after it
+abbrev pub save_block : Deliveries → ℕ → Reply → BoardParts → List ℕ
+save_block ds line reply b =
+    edges_text ds reply.edges ++ messages_text ds reply.bursts
+    ++ save_text line reply.number (bytes_of b)
+
+-- the block of a move: the edges of its access and those of the gap, likewise the messages, and the
+-- time after it
+abbrev pub move_block : Deliveries → ℕ → NewHost → Reply → BoardParts → List ℕ
+move_block ds line host reply b =
+    edges_text ds reply.edges
+    ++ edges_text ds (run (now_of b) host.gap (devices_in b)).edges
+    ++ messages_text ds reply.bursts ++ messages_text ds (gap_bursts host.gap b)
+    ++ move_text line reply.number (now_of (moved_to host.khz host.start host.gap b))
+
+-- what the end of a phase prints
 abbrev pub end_text : Deliveries → End → BoardParts → List ℕ
 end_text ds Finish b = []
 end_text ds (Save line cpu h) b =
-    let reply = reply_of b cpu h Step in
-    edges_text ds reply.edges ++ messages_text ds reply.bursts
-    ++ save_text line reply.number (bytes_of (after_access b cpu h Step))
+    save_block ds line (reply_of b cpu h Step) (after_access b cpu h Step)
 end_text ds (Move line cpu h host) b =
-    let reply = reply_of b cpu h Step in
-    let after = after_access b cpu h Step in
-    edges_text ds reply.edges
-    ++ edges_text ds (run (now_of after) host.gap (devices_in after)).edges
-    ++ messages_text ds reply.bursts ++ messages_text ds (gap_bursts host.gap after)
-    ++ move_text line reply.number (now_of (next_board (Move line cpu h host) b))
+    move_block ds line host (reply_of b cpu h Step) (after_access b cpu h Step)
 
 -- a phase that was run, with the access that ends it: there is one legal history, which opens with
 -- the opening state. It has the entries of the records and no others, and the access as its last.

@@ -3,11 +3,7 @@ ghost use Rattle.std.specs.Prelude.{◌≡◌, ◌<◌, ◌++◌, Some, None, If
 ghost use Rattle.std.specs.Option.{option_map};
 ghost use Rattle.std.specs.Io.{StartsWith};
 ghost use Rattle.clk_units.specs.Ranges.{IsKhz};
-ghost use Rattle.board_core.specs.Time.{devices_in, now_of};
-ghost use Rattle.board_devices.specs.Run.{run};
-ghost use Rattle.reply_text.specs.Text.{save_text, move_text};
-ghost use Rattle.save_state.specs.Writing.{bytes_of};
-ghost use Rattle.transfer.specs.Move.{gap_bursts, move_fault, moved_to};
+ghost use Rattle.transfer.specs.Move.{move_fault, moved_to};
 ghost use Rattle.race_phase.specs.declared.faults.Cause.TheVariants.{Move as ByMove};
 ghost use Rattle.race_phase.specs.Blocks.{edges_text, messages_text};
 ghost use Rattle.race_phase.specs.Order.{at_line};
@@ -15,6 +11,8 @@ ghost use Rattle.race_phase.specs.Phases.{
   IsEnd,
   next_board,
   end_fault,
+  save_block,
+  move_block,
   end_text,
 };
 
@@ -76,9 +74,8 @@ fn save(
     deliveries: &Deliveries,
     out: &mut Vec<u8>,
 ) -> Result<(), NoMemory>
-    ensures ok { OnOk result (out.new.items ≡ out.old.items
-        ++ (edges_text deliveries.now reply.now.edges ++ messages_text deliveries.now reply.now.bursts
-        ++ save_text line reply.now.number (bytes_of board.now))) }
+    ensures ok { OnOk result (out.new.items
+        ≡ out.old.items ++ save_block deliveries.now line reply.now board.now) }
     ensures err { OnErr result (StartsWith out.new.items out.old.items) }
 {
     event_lines(reply, deliveries, out)?;
@@ -100,13 +97,8 @@ fn cross_gap(
         (λ f. f ≡ at_line line (option_map ByMove (move_fault host.gap board.old))) }
     ensures board { IfOk result (λ f. IfNone f
         (board.new ≡ moved_to host.khz host.start host.gap board.old)) }
-    ensures text { IfOk result (λ f. IfNone f (out.new.items ≡ out.old.items
-        ++ (edges_text deliveries.now reply.now.edges
-        ++ edges_text deliveries.now (run (now_of board.old) host.gap (devices_in board.old)).edges
-        ++ messages_text deliveries.now reply.now.bursts
-        ++ messages_text deliveries.now (gap_bursts host.gap board.old)
-        ++ move_text line reply.now.number
-        (now_of (moved_to host.khz host.start host.gap board.old))))) }
+    ensures text { IfOk result (λ f. IfNone f (out.new.items
+        ≡ out.old.items ++ move_block deliveries.now line host reply.now board.old)) }
     ensures refused { IfOk result (λ f. IfSome f (λ _. out.new.items ≡ out.old.items)) }
     ensures err { OnErr result (StartsWith out.new.items out.old.items) }
 {

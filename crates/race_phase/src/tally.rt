@@ -50,8 +50,8 @@ ghost use Rattle.race_phase.specs.private.Tallied.{
 
 use crate::phases::NewHost;
 use board_core::{
-    Access, BoardState, HV_FORMAT, LAST_VERSION, MOST_ACCESSES, MSR_KVM_WALL_CLOCK, ProcessorParts,
-    Refusal, published_by, publishes_hv,
+    Access, BoardState, HV_FORMAT, ProcessorParts, Refusal, published_by, publishes_hv,
+    publishes_wall, spent_accesses, spent_version, wall_version_after,
 };
 use clk_units::RANGE_NS;
 use host_counter::{Anchor, TimeFault};
@@ -181,7 +181,7 @@ impl Tally {
             return Err(Refusal::NoTime(fault));
         }
         let version = self.raised(cpu, a);
-        match spent_version(version, self.spent()) {
+        match spent_version(version, spent_accesses(self.accesses)) {
             Some(refusal) => Err(refusal),
             None => Ok(()),
         }
@@ -199,21 +199,6 @@ impl Tally {
             Some(self.hv_version)
         } else {
             version_at(published_by(cpu, a), &self.versions)
-        }
-    }
-
-    /// Whether the accesses are spent.
-    #[inline(always)]
-    fn spent(&self) -> Option<Refusal>
-        ensures { result ≡ (if nat_le MOST_ACCESSES self.now.accesses
-            then Some (Spent self.now.accesses) else None) }
-    {
-        if self.accesses >= MOST_ACCESSES {
-            Some(Refusal::Spent {
-                number: self.accesses,
-            })
-        } else {
-            None
         }
     }
 
@@ -331,19 +316,6 @@ fn is_timed(anchor: &Anchor, h: u64) -> bool
             <= u128::from(anchor.khz) * u128::from(RANGE_NS - 1 - anchor.base_ns)
 }
 
-/// The version of the wall clock's words after an access.
-#[inline(always)]
-fn wall_version_after(a: Access, version: u32) -> u32
-    requires { publishes_wall a ≡ true → version < LAST_VERSION }
-    ensures { result ≡ wall_version_after a version }
-{
-    if publishes_wall(a) {
-        version + 2
-    } else {
-        version
-    }
-}
-
 /// The version of the reference page after an access.
 #[inline(always)]
 fn hv_version_after(a: Access, version: u32) -> u32
@@ -400,17 +372,6 @@ fn versions_of(processors: &[ProcessorParts; 64]) -> [u32; 64]
     versions
 }
 
-/// Whether an access publishes the words of the wall clock.
-#[inline(always)]
-fn publishes_wall(a: Access) -> bool
-    ensures { result ≡ publishes_wall a }
-{
-    match a {
-        Access::MsrWrite { msr, .. } => msr == MSR_KVM_WALL_CLOCK,
-        _ => false,
-    }
-}
-
 /// The version of a page.
 #[inline(always)]
 fn version_at(page: Option<u8>, versions: &[u32; 64]) -> Option<u32>
@@ -420,25 +381,6 @@ fn version_at(page: Option<u8>, versions: &[u32; 64]) -> Option<u32>
     match page {
         Some(page) => Some(versions[page as usize]),
         None => None,
-    }
-}
-
-/// The refusal where a version is the last one, else the next cause.
-#[inline(always)]
-fn spent_version(version: Option<u32>, next: Option<Refusal>) -> Option<Refusal>
-    ensures { result ≡ spent_version version next }
-{
-    match version {
-        Some(version) => {
-            if version >= LAST_VERSION {
-                Some(Refusal::VersionsSpent {
-                    version: u64::from(version),
-                })
-            } else {
-                next
-            }
-        }
-        None => next,
     }
 }
 

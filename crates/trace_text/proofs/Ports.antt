@@ -1,7 +1,7 @@
 -- Ports, by the two decimal digits that name them.
 use Rattle.std.proofs.Common.{◌≡◌, ℕ, ◌+◌, ◌-◌, ◌*◌, ◌<◌, ◌≤◌, true, length, drop, get_or, List, Some, refl, ap, ◌∙◌, inl, inr, arith}
 use Rattle.std.specs.Char.{digit_value}
-use Rattle.std.proofs.lemmas.Bool.{cases_eq, lt-ltb, le-ltb}
+use Rattle.std.proofs.lemmas.Bool.{cases_eq, lt-ltb, le-ltb, le-leb}
 use Rattle.board_types.specs.Legal.{is_port}
 use Rattle.trace_text.specs.private.Spelled.{spelled, words_from}
 use Rattle.trace_text.proofs.Spells.{two_digits}
@@ -21,16 +21,7 @@ two_decimals at a b n line ea a0 a9 eb b0 b9 value inside space =
 
 -- the ports of the 8254, and of the MC146818
 pub pit_port : (n : ℕ) → 64 ≤ n → n ≤ 67 → is_port n ≡ true
-pit_port n h k = elim (cases_eq n 64) [
-  | inl e ↦ rw e refl
-  | inr a ↦ elim (cases_eq n 65) [
-    | inl e ↦ rw e refl
-    | inr b ↦ elim (cases_eq n 66) [
-      | inl e ↦ rw e refl
-      | inr d ↦ let e : n ≡ 67 = omega arith in rw e refl
-    ]
-  ]
-]
+pit_port n h k = rw (le-leb 64 n h) (rw (le-leb n 67 k) refl)
 
 pub rtc_port : (n : ℕ) → 112 ≤ n → n ≤ 113 → is_port n ≡ true
 rtc_port n h k = elim (cases_eq n 112) [

@@ -1,7 +1,5 @@
 //! What a record does, by the words after its counter.
 ghost use Rattle.std.specs.Prelude.{◌≡◌, ◌<◌, nat_lt, Ok, IfOk, OnSome, IfNone, codes};
-ghost use Rattle.board_types.specs.Legal.{is_port, is_hpet_place};
-ghost use Rattle.irq_edges.specs.Lines.{is_line};
 ghost use Rattle.trace_text.specs.Tokens.{rest, first, such_that, decimal_past};
 ghost use Rattle.trace_text.specs.Rows.{last};
 ghost use Rattle.board_types.specs.declared.setup.TheConstants.{HV_FORMAT};
@@ -30,7 +28,7 @@ ghost use Rattle.trace_text.specs.Records.{
 
 use crate::records::{Body, Call, Job};
 use crate::words::Words;
-use board_types::{APIC_FORMAT, Access, HV_FORMAT, TickSource};
+use board_types::{APIC_FORMAT, Access, HV_FORMAT, TickSource, is_hpet_place, is_line, is_port};
 use reply_text::Reason;
 
 /// The MSR of steal time (Linux, "KVM-specific MSRs", MSR_KVM_STEAL_TIME), which isn't kept.
@@ -55,33 +53,6 @@ fn board(body: &Body, access: Access) -> Result<Job, Reason>
     } else {
         Err(Reason::Form)
     }
-}
-
-/// Whether the board has this port, as `Access::legal` asks of an access that lies in memory.
-#[inline(always)]
-fn is_port(port: u8) -> bool
-    ensures { result ≡ is_port port }
-{
-    match port {
-        0x40 | 0x41 | 0x42 | 0x43 | 0x61 | 0x70 | 0x71 => true,
-        _ => false,
-    }
-}
-
-/// Whether this is one of the six lines, likewise.
-#[inline(always)]
-pub(crate) fn is_line(line: u8) -> bool
-    ensures { result ≡ is_line line }
-{
-    matches!(line, 0 | 8 | 20 | 21 | 22 | 23)
-}
-
-/// Whether an access to the HPET lies in its block and has a width that there is, likewise.
-#[inline(always)]
-pub(crate) fn is_hpet_place(offset: u16, width: u8) -> bool
-    ensures { result ≡ is_hpet_place offset width }
-{
-    offset <= 0x3ff && matches!(width, 1 | 2 | 4 | 8)
 }
 
 /// An access to this MSR.

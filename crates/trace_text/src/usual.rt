@@ -4,7 +4,7 @@ ghost use Rattle.std.specs.Prelude.{◌≡◌, ◌++◌, [], Ok, IfSome};
 ghost use Rattle.trace_text.specs.Tokens.{words_of};
 ghost use Rattle.trace_text.specs.Records.{job_of, in_row, out_row, hr_row, ack_row, clock_row, IsJob};
 
-use crate::jobs::{act, is_hpet_place, is_line};
+use crate::jobs::act;
 use crate::records::{Body, Call, Job};
 use crate::words::Words;
 use board_types::Access;

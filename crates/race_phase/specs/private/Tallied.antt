@@ -11,7 +11,7 @@ use Rattle.board_types.specs.declared.setup.TheConstants.{HV_FORMAT}
 use Rattle.board_types.specs.declared.reply.Refusal.{Refusal}
 use Rattle.board_types.specs.declared.reply.Refusal.TheVariants.{NoTime, Spent}
 use Rattle.board_core.specs.Pages.{published_by}
-use Rattle.board_core.specs.Refusals.{spent_version}
+use Rattle.board_core.specs.Refusals.{spent_version, spent_accesses}
 use Rattle.board_core.specs.Time.{HasTime, time_fault}
 use Rattle.board_core.specs.Hv.{publishes_hv}
 use Rattle.board_core.specs.Wall.{publishes_wall, wall_version_after}
@@ -41,7 +41,7 @@ unfoldable pub refusal_in : TallyParts → ℕ → ℕ → Access → Option Ref
 refusal_in t cpu h a =
     option_or (option_map NoTime (time_fault t.anchor h))
     (spent_version (raised_in t cpu a)
-    (if nat_le MOST_ACCESSES t.accesses then Some (Spent t.accesses) else None))
+    (spent_accesses t.accesses))
 
 -- the versions with that of a page raised, if there is one
 abbrev pub raised_at : Option ℕ → List ℕ → List ℕ
