@@ -7,7 +7,7 @@ ghost use Rattle.trace_text.specs.Records.{job_of, in_row, out_row, hr_row, ack_
 use crate::jobs::act;
 use crate::records::{Body, Call, Job};
 use crate::words::Words;
-use board_types::Access;
+use board_types::{Access, is_hpet_place, is_line};
 
 /// What most records do, by the bytes after the counter; None also for what others do. It is small, so that the answer to
 /// a line is inlined in the loop over the lines.
