@@ -9,8 +9,6 @@ ghost use Rattle.std.specs.Prelude.{
   OnOk,
   None,
   Some,
-  nat_le,
-  if◌then◌else◌,
   IsTrue,
 };
 ghost use Rattle.clk_units.specs.Ranges.{IsKhz};

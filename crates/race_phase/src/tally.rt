@@ -14,8 +14,6 @@ ghost use Rattle.std.specs.Prelude.{
   IsTrue,
   length,
   slice_index_or,
-  nat_le,
-  if◌then◌else◌,
 };
 ghost use Rattle.clk_units.specs.Ranges.{IsKhz};
 ghost use Rattle.clk_units.specs.declared.ranges.TheConstants.{RANGE_NS};
@@ -23,7 +21,6 @@ ghost use Rattle.host_counter.specs.Time.{IsFaultAt};
 ghost use Rattle.board_types.specs.Legal.{is_legal};
 ghost use Rattle.board_types.specs.declared.parts.BoardParts.{BoardParts};
 ghost use Rattle.board_types.specs.declared.parts.TheConstants.{LAST_VERSION, MOST_ACCESSES};
-ghost use Rattle.board_types.specs.declared.reply.Refusal.TheVariants.{Spent};
 ghost use Rattle.board_core.specs.Access.{after_access};
 ghost use Rattle.board_core.specs.Pages.{published_by};
 ghost use Rattle.board_core.specs.Refusals.{refusal_of, spent_version};

@@ -6,10 +6,9 @@ use Rattle.clk_units.specs.declared.ranges.TheConstants.{RANGE_NS}
 use Rattle.host_counter.specs.declared.Anchor.{Anchor}
 use Rattle.host_counter.specs.Time.{time_at}
 use Rattle.board_types.specs.declared.access.Access.{Access}
-use Rattle.board_types.specs.declared.parts.TheConstants.{MOST_ACCESSES}
 use Rattle.board_types.specs.declared.setup.TheConstants.{HV_FORMAT}
 use Rattle.board_types.specs.declared.reply.Refusal.{Refusal}
-use Rattle.board_types.specs.declared.reply.Refusal.TheVariants.{NoTime, Spent}
+use Rattle.board_types.specs.declared.reply.Refusal.TheVariants.{NoTime}
 use Rattle.board_core.specs.Pages.{published_by}
 use Rattle.board_core.specs.Refusals.{spent_version, spent_accesses}
 use Rattle.board_core.specs.Time.{HasTime, time_fault}
