@@ -23,7 +23,7 @@ use Rattle.std.proofs.Common.{
 }
 use Rattle.std.proofs.lemmas.Bool.{and_from, eqb-true, eqb-false, cond_both, le-leb, lt-ltb}
 use Rattle.std.proofs.lemmas.Bool.Decides.{nat_tests}
-use Rattle.pit_counter.specs.Mode.{mode_of, access_of, is_square, takes_two, is_bcd}
+use Rattle.pit_counter.specs.Mode.{mode_of, access_of, is_terminal, is_square, takes_two, is_bcd}
 use Rattle.pit_counter.specs.Count.{modulus, meant_count, loaded_count, lowered, is_odd_square}
 use Rattle.pit_counter.specs.Programming.{
   programmed,
@@ -35,6 +35,7 @@ use Rattle.pit_counter.specs.Programming.{
 }
 use Rattle.pit_counter.specs.Table.{effect_in, affected, pulsed}
 use Rattle.pit_counter.specs.Reading.{
+  status_of,
   with_count_latched,
   with_status_latched,
   status_released,
@@ -234,9 +235,13 @@ IsCounter-programmed bits gate least greatest =
       latched_status = refl;
     }
 
+-- a byte of a count sets OUT low in mode 0
+abbrev lowered_out : CounterParts → CounterParts
+lowered_out c = record c { out = c.out && not (is_terminal (mode_of c.bits)) }
+
 -- a count or its first byte is written, or GATE is set, in any mode
 Valid-set : (m : Mode) (count byte : ℕ) (level : Bool) (c : CounterParts) → mode_of c.bits ≡ m → Valid c
-    → Valid (completed count c) × (takes_two (access_of c.bits) ≡ true → Valid (begun byte c)) × Valid (gated level c)
+    → Valid (completed count (lowered_out c)) × (takes_two (access_of c.bits) ≡ true → Valid (begun byte (lowered_out c))) × Valid (gated level c)
 unfolding completed begun gated flags_valid ce_valid part_valid
 Valid-set TerminalCount count byte level c m h =
     let flags = simp m at h.0 in
@@ -255,7 +260,7 @@ Valid-set other count byte level c m h =
       (simp m (grind arith), simp m (grind arith), simp m (grind arith)),
     )
 
-IsCounter-completed : (count : ℕ) (c : CounterParts) → IsCounter c → IsCounter (completed count c)
+IsCounter-completed : (count : ℕ) (c : CounterParts) → IsCounter c → IsCounter (completed count (lowered_out c))
 unfolding completed bits_valid cr_valid read_order_valid latched_count_valid latched_status_valid
 IsCounter-completed count c h =
     let valid = (Valid-set (mode_of c.bits) count 0 true c refl (h.flags, h.ce, h.part)).0 in
@@ -270,7 +275,7 @@ IsCounter-completed count c h =
       latched_status = h.latched_status;
     }
 
-IsCounter-begun : (byte : ℕ) (c : CounterParts) → takes_two (access_of c.bits) ≡ true → IsCounter c → IsCounter (begun byte c)
+IsCounter-begun : (byte : ℕ) (c : CounterParts) → takes_two (access_of c.bits) ≡ true → IsCounter c → IsCounter (begun byte (lowered_out c))
 unfolding begun bits_valid cr_valid read_order_valid latched_count_valid latched_status_valid
 IsCounter-begun byte c two h =
     let valid = (Valid-set (mode_of c.bits) 0 byte true c refl (h.flags, h.ce, h.part)).1 two in
@@ -285,12 +290,13 @@ IsCounter-begun byte c two h =
       latched_status = h.latched_status;
     }
 
-IsCounter-byte_written_by : (a : Access) (byte : ℕ) (c : CounterParts) → access_of c.bits ≡ a → IsCounter c → IsCounter (byte_written_by a byte c)
+IsCounter-byte_written_by : (a : Access) (byte : ℕ) (c : CounterParts) → access_of c.bits ≡ a → IsCounter c → IsCounter (byte_written_by a byte (lowered_out c))
 unfolding byte_written_by
 IsCounter-byte_written_by LowByte byte c e h = IsCounter-completed byte c h
 IsCounter-byte_written_by HighByte byte c e h = IsCounter-completed (byte * 256) c h
 IsCounter-byte_written_by LowThenHigh byte c e h =
-    cond_both c.part_there (completed (c.part + byte * 256) c) (begun byte c) IsCounter (λ _. IsCounter-completed (c.part + byte * 256) c h)
+    cond_both c.part_there (completed (c.part + byte * 256) (lowered_out c)) (begun byte (lowered_out c)) IsCounter
+    (λ _. IsCounter-completed (c.part + byte * 256) c h)
     (λ _. IsCounter-begun byte c (ap takes_two e) h)
 
 pub IsCounter-byte_written : (byte : ℕ) (c : CounterParts) → IsCounter c → IsCounter (byte_written byte c)
@@ -329,7 +335,8 @@ IsCounter-with_count_latched c h =
 pub IsCounter-with_status_latched : (c : CounterParts) → IsCounter c → IsCounter (with_status_latched c)
 unfolding with_status_latched bits_valid flags_valid cr_valid ce_valid part_valid read_order_valid latched_count_valid latched_status_valid
 IsCounter-with_status_latched c h =
-    record {
+    cond_both c.status_latched c (record c { status_latched = true; latched_status = status_of c }) IsCounter (λ _. h)
+    (λ _. record {
       bits = h.bits;
       flags = h.flags;
       cr = h.cr;
@@ -338,7 +345,7 @@ IsCounter-with_status_latched c h =
       read_order = h.read_order;
       latched_count = h.latched_count;
       latched_status = refl;
-    }
+    })
 
 IsCounter-status_released : (c : CounterParts) → IsCounter c → IsCounter (status_released c)
 unfolding status_released bits_valid flags_valid cr_valid ce_valid part_valid read_order_valid latched_count_valid latched_status_valid

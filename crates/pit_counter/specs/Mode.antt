@@ -1,5 +1,5 @@
 -- What the six programmed bits of a control word say. Intel 8254 data sheet, "Control Word Format".
-use Rattle.std.specs.Prelude.{ℕ, ◌/◌, ◌%◌, ◌==◌, Bool, true, false, if◌then◌else◌}
+use Rattle.std.specs.Prelude.{ℕ, ◌/◌, ◌%◌, ◌==◌, ◌||◌, Bool, true, false, if◌then◌else◌}
 use Rattle.clk_units.specs.Bits.{bit}
 use Rattle.pit_counter.specs.declared.mode.Mode.{Mode}
 use Rattle.pit_counter.specs.declared.mode.Mode.TheVariants.{
@@ -53,9 +53,7 @@ is_square _ = false
 
 -- modes 2 and 3, which load the count again and again
 abbrev pub is_periodic : Mode → Bool
-is_periodic RateGenerator = true
-is_periodic SquareWave = true
-is_periodic _ = false
+is_periodic m = is_rate m || is_square m
 
 -- modes 1, 2, 3 and 5, in which a rise of GATE is a trigger
 abbrev pub has_trigger : Mode → Bool

@@ -1,41 +1,20 @@
 -- The conditions on the fields of a counter, in the order of a saved state's fields. A condition on
 -- several fields is one on the first of them at which it is certain that it fails (own).
-use Rattle.std.specs.Prelude.{
-  ◌%◌,
-  ◌==◌,
-  nat_lt,
-  nat_le,
-  ◌&&◌,
-  ◌||◌,
-  not,
-  Bool,
-  true,
-  IsTrue,
-  Option,
-  Some,
-  None,
-  if◌then◌else◌,
-}
+use Rattle.std.specs.Prelude.{◌%◌, ◌==◌, nat_lt, nat_le, ◌&&◌, ◌||◌, not, Bool, IsTrue}
+use Rattle.std.specs.Prelude.{Option, Some, None, if◌then◌else◌}
 use Rattle.pit_counter.specs.Mode.{
   mode_of,
   access_of,
   is_terminal,
   is_rate,
   is_square,
+  is_periodic,
   has_trigger,
   has_strobe,
   takes_two,
 }
 use Rattle.pit_counter.specs.Count.{modulus}
 use Rattle.pit_counter.specs.declared.mode.Mode.{Mode}
-use Rattle.pit_counter.specs.declared.mode.Mode.TheVariants.{
-  TerminalCount,
-  OneShot,
-  RateGenerator,
-  SquareWave,
-  SoftwareStrobe,
-  HardwareStrobe,
-}
 use Rattle.pit_counter.specs.declared.parts.CounterField.{CounterField}
 use Rattle.pit_counter.specs.declared.parts.CounterField.TheVariants.{
   ProgrammedBits,
@@ -57,14 +36,12 @@ only_where a b = not a || b
 unfoldable pub bits_valid : CounterParts → Bool
 bits_valid c = nat_le 16 c.bits && nat_lt c.bits 64
 
--- where OUT may be low, by mode
-abbrev pub may_be_low : Mode → Bool → Bool → Bool → Bool
-may_be_low TerminalCount live gate armed = true
-may_be_low OneShot live gate armed = live
-may_be_low RateGenerator live gate armed = live && gate
-may_be_low SquareWave live gate armed = live && gate
-may_be_low SoftwareStrobe live gate armed = live && not armed
-may_be_low HardwareStrobe live gate armed = live && not armed
+-- where OUT may be low: in mode 0, and else where a count is loaded, in modes 2 and 3 with GATE
+-- high, in modes 4 and 5 with no strobe due
+abbrev pub may_be_low : Mode → CounterParts → Bool
+may_be_low m c =
+    is_terminal m
+    || (c.live && only_where (is_periodic m) c.gate && only_where (has_strobe m) (not c.armed))
 
 -- a count is loaded only where one was written, and null count is 0 only where one is loaded
 abbrev pub count_flags_valid : CounterParts → Bool
@@ -80,7 +57,7 @@ mode_flags_valid m c =
 -- OUT is low only where its mode lets it be, and in mode 0 while a count waits for its load
 abbrev pub out_valid : Mode → CounterParts → Bool
 out_valid m c =
-    (c.out || may_be_low m c.live c.gate c.armed)
+    (c.out || may_be_low m c)
     && only_where (is_terminal m && c.null) (not c.out)
 
 -- the flags

@@ -38,24 +38,13 @@ counter_at_power_on gate = programmed 0x36 gate
 abbrev pub controlled : ℕ → CounterParts → CounterParts
 controlled bits c = programmed bits c.gate
 
--- a whole count is written: it waits for its load; in mode 0 OUT goes low
+-- a whole count is written: it waits for its load
 unfoldable pub completed : ℕ → CounterParts → CounterParts
-completed count c = record c {
-  cr = count;
-  full = true;
-  null = true;
-  part_there = false;
-  part = 0;
-  out = c.out && not (is_terminal (mode_of c.bits));
-}
+completed count c = record c { cr = count; full = true; null = true; part_there = false; part = 0 }
 
--- the first of two bytes is written: in mode 0 it stops the count, and OUT goes low
+-- the first of two bytes is written: in mode 0 it stops the count
 unfoldable pub begun : ℕ → CounterParts → CounterParts
-begun byte c = record c {
-  part_there = true;
-  part = byte;
-  out = c.out && not (is_terminal (mode_of c.bits));
-}
+begun byte c = record c { part_there = true; part = byte }
 
 -- a byte of a count is written, by RW1 RW0
 unfoldable pub byte_written_by : Access → ℕ → CounterParts → CounterParts
@@ -65,9 +54,11 @@ byte_written_by LowThenHigh byte c =
     if c.part_there then completed (c.part + byte * 256) c
     else begun byte c
 
--- a byte of a count is written
+-- a byte of a count is written: in mode 0 OUT goes low with each
 abbrev pub byte_written : ℕ → CounterParts → CounterParts
-byte_written byte c = byte_written_by (access_of c.bits) byte c
+byte_written byte c =
+    byte_written_by (access_of c.bits) byte
+    (record c { out = c.out && not (is_terminal (mode_of c.bits)) })
 
 -- GATE takes a level: a fall sets OUT high at once in modes 2 and 3, a rise is a trigger in modes
 -- 1, 2, 3 and 5 where a count was written (own)

@@ -26,10 +26,9 @@ with_count_latched c = record c { count_latched = true; latched_count = shown_co
 
 -- and the status likewise
 unfoldable pub with_status_latched : CounterParts → CounterParts
-with_status_latched c = record c {
-  status_latched = true;
-  latched_status = if c.status_latched then c.latched_status else status_of c;
-}
+with_status_latched c =
+    if c.status_latched then c
+    else record c { status_latched = true; latched_status = status_of c }
 
 -- whether a read of the count gives its high byte: by RW1 RW0, with both bytes in turn
 abbrev pub reads_high : Access → Bool → Bool

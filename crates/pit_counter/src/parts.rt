@@ -142,7 +142,7 @@ pub fn bits_valid(p: &CounterParts) -> bool
 
 /// Where OUT may be low, by mode.
 fn may_be_low(mode: Mode, p: &CounterParts) -> bool
-    ensures { result ≡ may_be_low mode p.now.live p.now.gate p.now.armed }
+    ensures { result ≡ may_be_low mode p.now }
 {
     match mode {
         Mode::TerminalCount => true,

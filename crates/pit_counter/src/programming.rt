@@ -52,7 +52,6 @@ fn completed(count: u16, p: CounterParts) -> CounterParts
         null: true,
         part_there: false,
         part: 0,
-        out: p.out && !mode_of(p.bits).is_terminal(),
         ..p
     }
 }
@@ -65,16 +64,19 @@ fn begun(byte: u8, p: CounterParts) -> CounterParts
     CounterParts {
         part_there: true,
         part: byte,
-        out: p.out && !mode_of(p.bits).is_terminal(),
         ..p
     }
 }
 
-/// A byte of a count is written.
+/// A byte of a count is written: in mode 0 OUT goes low with each.
 #[tactic(auto, unfolding(crate::specs::Programming::byte_written_by))]
 pub fn byte_written(byte: u8, p: CounterParts) -> CounterParts
     ensures { result ≡ byte_written byte p }
 {
+    let p = CounterParts {
+        out: p.out && !mode_of(p.bits).is_terminal(),
+        ..p
+    };
     match access_of(p.bits) {
         Access::LowByte => completed(byte as u16, p),
         Access::HighByte => completed(byte as u16 * 256, p),

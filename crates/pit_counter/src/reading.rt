@@ -58,13 +58,12 @@ pub fn with_status_latched(p: CounterParts) -> CounterParts
     requires { p.bits < 64 }
     ensures { result ≡ with_status_latched p }
 {
+    if p.status_latched {
+        return p;
+    }
     CounterParts {
         status_latched: true,
-        latched_status: if p.status_latched {
-            p.latched_status
-        } else {
-            status_of(&p)
-        },
+        latched_status: status_of(&p),
         ..p
     }
 }
