@@ -1,5 +1,5 @@
 -- Rows on the definitions: each rule of a nanosecond, of the lines and of an access, at one state shortly before it.
-use Rattle.std.proofs.Common.{◌≡◌, ℕ, ◌+◌, ◌*◌, true, false, map, refl, [], ◌∷◌, List}
+use Rattle.std.proofs.Common.{◌≡◌, ℕ, ◌+◌, ◌*◌, true, false, map, replicate, refl, [], ◌∷◌, List}
 use Rattle.std.specs.Prelude.{replicate}
 use Rattle.clk_units.specs.Pulses.{falls_at, pulses_by}
 use Rattle.pit_counter.specs.declared.parts.CounterParts.{CounterParts}
@@ -19,7 +19,7 @@ use Rattle.rtc_registers.specs.Pulses.{alarms_next, moved, rtc_pulsed}
 use Rattle.hpet_comparator.specs.declared.parts.TimerParts.{TimerParts}
 use Rattle.hpet_comparator.specs.Stretch.{matches_at, pulsed as timer_pulsed}
 use Rattle.hpet_registers.specs.declared.parts.HpetParts.{HpetParts}
-use Rattle.hpet_registers.specs.Parts.{no_timer, no_bits, no_words, hpet_at_power_on}
+use Rattle.hpet_registers.specs.Parts.{no_timer, hpet_at_power_on}
 use Rattle.hpet_registers.specs.Stretch.{matches_next, hpet_pulsed}
 use Rattle.tick_policy.specs.declared.parts.TickParts.{TickParts}
 use Rattle.tick_policy.specs.declared.parts.Policy.{Policy}
@@ -89,8 +89,8 @@ hpet config status counter = record {
       ∷ no_timer ∷ no_timer ∷ no_timer ∷ no_timer ∷ no_timer ∷ [];
   timers = 3;
   messages = false;
-  message_bit = no_bits;
-  message_word = no_words;
+  message_bit = replicate 8 false;
+  message_word = replicate 8 0;
 }
 
 -- the lines of the 8254, of the MC146818 and of timer 0
@@ -151,8 +151,8 @@ timers config t0 t1 t2 t7 = record {
   timer = t0 ∷ t1 ∷ t2 ∷ no_timer ∷ no_timer ∷ no_timer ∷ no_timer ∷ t7 ∷ [];
   timers = 8;
   messages = false;
-  message_bit = no_bits;
-  message_word = no_words;
+  message_bit = replicate 8 false;
+  message_word = replicate 8 0;
 }
 
 -- the lines of timers 0, 1, 2 and 7, of which the other timers are not there

@@ -3,7 +3,7 @@
 use Rattle.std.specs.Prelude.{ℕ, ◌+◌, ◌-◌, ◌*◌, ◌/◌, ◌%◌, ◌^◌, Bool, true, false, ◌&&◌, ◌||◌, ◌==◌}
 use Rattle.std.specs.Prelude.{if◌then◌else◌, slice_set, bit_and}
 use Rattle.hpet_comparator.specs.Part.{part_written, is_register_width}
-use Rattle.clk_units.specs.Bits.{bit}
+use Rattle.clk_units.specs.Bits.{bit, bit_value}
 use Rattle.hpet_comparator.specs.Config.{config_register, config_written}
 use Rattle.hpet_comparator.specs.Comparator.{comparator_written}
 use Rattle.hpet_registers.specs.declared.parts.HpetParts.{HpetParts}
@@ -20,9 +20,7 @@ use Rattle.hpet_registers.specs.Register.{register_at}
 -- kept here (2.3.8)
 abbrev pub timer_config_register : ℕ → HpetParts → ℕ
 timer_config_register k h =
-    config_register (timer_at k h)
-    + (if message_bit_at k h then 0x4000 else 0)
-    + (if h.messages then 0x8000 else 0)
+    config_register (timer_at k h) + bit_value (message_bit_at k h) 14 + bit_value h.messages 15
 
 -- what a register holds. Capabilities: 10 ns in bits 63 to 32, vendor 8086h, LEG_RT_CAP, 64-bit
 -- counter, the last timer in bits 12 to 8, revision 1 (2.3.4)

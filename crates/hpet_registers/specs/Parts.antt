@@ -1,8 +1,8 @@
 -- The fields of the HPET and their conditions. Sections are those of the IA-PC HPET specification
 -- 1.0a; (own) marks what it leaves open and this project chose.
 use Rattle.std.specs.Prelude.{◌≡◌, ℕ, zero, suc, ◌<◌, ◌≤◌, Bool, true, false, ◌||◌, ◌==◌, not}
-use Rattle.std.specs.Prelude.{nat_lt, nat_le, if◌then◌else◌, List, [], ◌∷◌, slice_index_or, ◌⊎◌}
-use Rattle.std.specs.Prelude.{Option, Some, None}
+use Rattle.std.specs.Prelude.{nat_lt, nat_le, if◌then◌else◌, ◌++◌, slice_index_or, ◌⊎◌}
+use Rattle.std.specs.Prelude.{replicate, Option, Some, None}
 use Rattle.hpet_comparator.specs.declared.parts.TimerParts.{TimerParts}
 use Rattle.hpet_comparator.specs.declared.parts.TimerField.{TimerField}
 use Rattle.hpet_comparator.specs.declared.parts.TimerField.TheVariants.{Comparator, Period}
@@ -120,30 +120,17 @@ hpet_fault h =
     else if not (hpet_status_valid h) then Some Status
     else or_else (first_below (timer_fault_at h) 8) (first_below (message_fault_at h) 8)
 
--- no timer sends messages
-abbrev pub no_bits : List Bool
-no_bits = false ∷ false ∷ false ∷ false ∷ false ∷ false ∷ false ∷ false ∷ []
-
--- the message words of timers that send none
-abbrev pub no_words : List ℕ
-no_words = 0 ∷ 0 ∷ 0 ∷ 0 ∷ 0 ∷ 0 ∷ 0 ∷ 0 ∷ []
-
--- the places of three timers, and of eight, at power on
-abbrev pub timers_at_power_on : ℕ → List TimerParts
-timers_at_power_on timers =
-    let last : TimerParts = if timers == 8 then timer_at_power_on else no_timer in
-    timer_at_power_on ∷ timer_at_power_on ∷ timer_at_power_on
-    ∷ last ∷ last ∷ last ∷ last ∷ last ∷ []
-
--- the HPET at power on (2.3: each register's reset value)
+-- the HPET at power on, with three timers or eight (2.3: each register's reset value); no timer
+-- sends messages
 abbrev pub hpet_at_power_on : ℕ → Bool → HpetParts
 hpet_at_power_on timers messages = record {
   config = 0;
   status = 0;
   counter = 0;
-  timer = timers_at_power_on timers;
+  timer = replicate 3 timer_at_power_on
+      ++ replicate 5 (if timers == 8 then timer_at_power_on else no_timer);
   timers = timers;
   messages = messages;
-  message_bit = no_bits;
-  message_word = no_words;
+  message_bit = replicate 8 false;
+  message_word = replicate 8 0;
 }
