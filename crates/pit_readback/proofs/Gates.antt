@@ -1,5 +1,6 @@
 -- What leaves GATE of a counter as it is: all but a write of port 61h.
-use Rattle.std.proofs.Common.{◌≡◌, ℕ, zero, suc, ◌+◌, ◌*◌, ◌<◌, [], ◌∷◌, length, get_or, slice_set, arith, Bool, true, false, refl, ap, sym, ◌∙◌, inl, inr}
+use Rattle.std.proofs.Common.{◌≡◌, ℕ, zero, suc, ◌+◌, ◌*◌, ◌<◌, [], ◌∷◌, length, get_or, slice_set, arith}
+use Rattle.std.proofs.Common.{Bool, true, false, not, ◌&&◌, cond, refl, ap, sym, ◌∙◌, inl, inr}
 use Rattle.std.proofs.lemmas.Bool.{cond_both, cases_order}
 use Rattle.std.proofs.lemmas.List.{get_or-set_other, get_or_default, length-set}
 use Rattle.std.proofs.lemmas.Grind.{get_or-set_at}
@@ -8,7 +9,7 @@ use Rattle.pit_counter.specs.declared.mode.Access.{Access}
 use Rattle.pit_counter.specs.declared.mode.Access.TheVariants.{LowByte, HighByte, LowThenHigh}
 use Rattle.pit_counter.specs.declared.table.Effect.{Effect}
 use Rattle.pit_counter.specs.declared.table.Effect.TheVariants.{Load}
-use Rattle.pit_counter.specs.Mode.{mode_of, access_of}
+use Rattle.pit_counter.specs.Mode.{mode_of, access_of, is_terminal}
 use Rattle.pit_counter.specs.Programming.{counter_at_power_on, completed, begun, byte_written_by, byte_written}
 use Rattle.pit_counter.specs.Table.{effect_in, affected, pulsed, pulsed_times}
 use Rattle.pit_counter.specs.Reading.{with_count_latched, with_status_latched, status_released, count_released, after_read}
@@ -16,7 +17,7 @@ use Rattle.pit_readback.specs.private.Wiring.{IsWired}
 use Rattle.pit_readback.specs.Pit.{counter_of, pit_pulsed_times}
 use Rattle.pit_readback.specs.declared.parts.PitParts.{PitParts}
 use Rattle.pit_readback.proofs.Three.{length-pit_pulsed_times, counter_of-pit_pulsed_times}
-use Rattle.pit_readback.specs.Ports.{count_latched_if, status_latched_if, latches_count, latches_status, read_back_of}
+use Rattle.pit_readback.specs.Ports.{latches_count, latches_status, read_back_of}
 
 gate-byte_written_by : (a : Access) (byte : ℕ) (c : CounterParts) → (byte_written_by a byte c).gate ≡ c.gate
 unfolding byte_written_by completed begun
@@ -27,28 +28,30 @@ gate-byte_written_by LowThenHigh byte c = cond_both c.part_there (completed (c.p
 
 -- a byte of a count
 pub gate-byte_written : (byte : ℕ) (c : CounterParts) → (byte_written byte c).gate ≡ c.gate
-gate-byte_written byte c = gate-byte_written_by (access_of c.bits) byte c
+gate-byte_written byte c = gate-byte_written_by (access_of c.bits) byte (record c { out = c.out && not (is_terminal (mode_of c.bits)) })
 
 -- a read
 pub gate-after_read : (c : CounterParts) → (after_read c).gate ≡ c.gate
 unfolding after_read status_released count_released
 gate-after_read c = cond_both c.status_latched (status_released c) (count_released c) (λ d. d.gate ≡ c.gate) (λ _. refl) (λ _. refl)
 
-gate-count_latched_if : (latch : Bool) (c : CounterParts) → (count_latched_if latch c).gate ≡ c.gate
-unfolding count_latched_if with_count_latched
-gate-count_latched_if true c = refl
-gate-count_latched_if false c = refl
+gate-count_latched : (latch : Bool) (c : CounterParts) → (cond latch (with_count_latched c) c).gate ≡ c.gate
+unfolding with_count_latched
+gate-count_latched true c = refl
+gate-count_latched false c = refl
 
-gate-status_latched_if : (latch : Bool) (c : CounterParts) → (status_latched_if latch c).gate ≡ c.gate
-unfolding status_latched_if with_status_latched
-gate-status_latched_if true c = refl
-gate-status_latched_if false c = refl
+gate-with_status_latched : (c : CounterParts) → (with_status_latched c).gate ≡ c.gate
+unfolding with_status_latched
+gate-with_status_latched c = cond_both c.status_latched c _ (λ (d : CounterParts). d.gate ≡ c.gate) (λ _. refl) (λ _. refl)
 
 -- a read-back command
 pub gate-read_back_of : (byte k : ℕ) (c : CounterParts) → (read_back_of byte k c).gate ≡ c.gate
 unfolding read_back_of
-gate-read_back_of byte k c = gate-status_latched_if (latches_status byte k) (count_latched_if (latches_count byte k) c)
-    ∙ gate-count_latched_if (latches_count byte k) c
+gate-read_back_of byte k c =
+    let counted : CounterParts = cond (latches_count byte k) (with_count_latched c) c in
+    cond_both (latches_status byte k) (with_status_latched counted) counted (λ d. d.gate ≡ c.gate)
+    (λ _. gate-with_status_latched counted ∙ gate-count_latched (latches_count byte k) c)
+    (λ _. gate-count_latched (latches_count byte k) c)
 
 gate-affected : (e : Effect) (c : CounterParts) → (affected e c).gate ≡ c.gate
 gate-affected (Load level) c = refl

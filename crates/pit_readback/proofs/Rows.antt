@@ -20,8 +20,6 @@ use Rattle.pit_readback.specs.Ports.{
   is_chosen,
   latches_count,
   latches_status,
-  count_latched_if,
-  status_latched_if,
   read_back_of,
   read_back,
   commanded,
@@ -53,7 +51,7 @@ status_then_count : port_read 0 0x41 (port_written 0x43 0xe4 programmed_74)
     ∷ []
     ≡ 0xf4 ∷ 0x00 ∷ []
 unfolding programmed_74 port_read after_port_read after_read status_released count_released port_written written_43 commanded read_back read_back_of
-    latches_count latches_status is_chosen count_latched_if status_latched_if programmed with_count_latched with_status_latched status_of byte_read
+    latches_count latches_status is_chosen programmed with_count_latched with_status_latched status_of byte_read
     shown_count count_of read_as access_of is_bcd mode_of
 status_then_count = refl
 

@@ -15,7 +15,7 @@ use Rattle.std.specs.Prelude.{
   if◌then◌else◌,
   [],
   ◌∷◌,
-  slice_set,
+  map,
 }
 use Rattle.clk_units.specs.Bits.{bit, bit_value}
 use Rattle.pit_counter.specs.declared.parts.CounterParts.{CounterParts}
@@ -46,28 +46,16 @@ latches_count byte k = is_chosen byte k && not (bit 5 byte)
 unfoldable pub latches_status : ℕ → ℕ → Bool
 latches_status byte k = is_chosen byte k && not (bit 4 byte)
 
--- a latch of the count, if there is one
-unfoldable pub count_latched_if : Bool → CounterParts → CounterParts
-count_latched_if latch c = if latch then with_count_latched c else c
-
--- a latch of the status, if there is one
-unfoldable pub status_latched_if : Bool → CounterParts → CounterParts
-status_latched_if latch c = if latch then with_status_latched c else c
-
 -- what a read-back command does to counter k
 unfoldable pub read_back_of : ℕ → ℕ → CounterParts → CounterParts
 read_back_of byte k c =
-    status_latched_if (latches_status byte k) (count_latched_if (latches_count byte k) c)
+    let counted = if latches_count byte k then with_count_latched c else c in
+    if latches_status byte k then with_status_latched counted else counted
 
 -- a read-back command: D7 D6 = 11
 unfoldable pub read_back : ℕ → PitParts → PitParts
-read_back byte p = record p {
-  counters =
-      read_back_of byte 0 (counter_of p 0)
-      ∷ read_back_of byte 1 (counter_of p 1)
-      ∷ read_back_of byte 2 (counter_of p 2)
-      ∷ [];
-}
+read_back byte p =
+    record p { counters = map (λ k. read_back_of byte k (counter_of p k)) (0 ∷ 1 ∷ 2 ∷ []) }
 
 -- a word for one counter: D5 D4 = 00 latches its count, another is a control word
 unfoldable pub commanded : ℕ → CounterParts → CounterParts
@@ -83,10 +71,8 @@ written_43 byte p =
 
 -- a write of port 61h: bit 0 is GATE of counter 2, bit 1 speaker data
 unfoldable pub written_61 : ℕ → PitParts → PitParts
-written_61 byte p = record p {
-  counters = slice_set p.counters 2 (gated (bit 0 byte) (counter_of p 2));
-  speaker = bit 1 byte;
-}
+written_61 byte p =
+    record (with_counter 2 (gated (bit 0 byte) (counter_of p 2)) p) { speaker = bit 1 byte }
 
 -- a write of one of the ports; 40h, 41h and 42h take the bytes of a count
 unfoldable pub port_written : ℕ → ℕ → PitParts → PitParts

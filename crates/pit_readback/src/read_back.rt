@@ -5,8 +5,6 @@ ghost use Rattle.pit_readback.specs.Ports.{
   is_chosen,
   latches_count,
   latches_status,
-  count_latched_if,
-  status_latched_if,
   read_back_of,
 };
 
@@ -40,38 +38,17 @@ fn latches_status(byte: u8, k: u8) -> bool
     is_chosen(byte, k) && !bit(4, byte as u64)
 }
 
-/// The counter after a latch of the count, if there is one.
-#[tactic(auto, unfolding(crate::specs::Ports::count_latched_if))]
-fn count_latched_if(latch: bool, mut counter: Counter) -> Counter
-    ensures { result ≡ count_latched_if latch counter }
-{
-    if !latch {
-        return counter;
-    }
-    counter.latch_count();
-    counter
-}
-
-/// The counter after a latch of the status, if there is one.
-#[tactic(auto, unfolding(crate::specs::Ports::status_latched_if))]
-fn status_latched_if(latch: bool, mut counter: Counter) -> Counter
-    ensures { result ≡ status_latched_if latch counter }
-{
-    if !latch {
-        return counter;
-    }
-    counter.latch_status();
-    counter
-}
-
 /// Counter `k` after a read-back command.
 #[tactic(auto, unfolding(crate::specs::Ports::read_back_of))]
-pub fn read_back_of(byte: u8, k: u8, counter: Counter) -> Counter
+pub fn read_back_of(byte: u8, k: u8, mut counter: Counter) -> Counter
     requires { k < 3 }
     ensures { result ≡ read_back_of byte k counter }
 {
-    status_latched_if(
-        latches_status(byte, k),
-        count_latched_if(latches_count(byte, k), counter),
-    )
+    if latches_count(byte, k) {
+        counter.latch_count();
+    }
+    if latches_status(byte, k) {
+        counter.latch_status();
+    }
+    counter
 }
