@@ -12,7 +12,8 @@ use Rattle.hpet_bursts.specs.Messages.{message_next, message_at, message_times}
 use Rattle.irq_edges.specs.declared.bursts.Burst.{Burst}
 use Rattle.hpet_registers.proofs.Product.{message_word_at-hpet_pulsed_times}
 use Rattle.hpet_bursts.specs.Bursts.{distance_of, burst_from, with_burst, bursts_below}
-use Rattle.hpet_bursts.specs.Next.{or_later, first_where, sends_below}
+use Rattle.std.specs.Option.{option_or}
+use Rattle.hpet_bursts.specs.Next.{first_where, sends_below}
 
 -- the pulses of two stretches
 pulses_from-joined : (hz t m n : ℕ) → pulses_from hz t (m + n) ≡ pulses_from hz t m + pulses_from hz (t + m) n
@@ -99,7 +100,7 @@ unfolding first_where
 found test t zero = λ i less. absurd (omega (arith, less))
 found test t (suc n) = by (first_where test t n) (test n) refl (found test t n)
   where
-    by : (a : Option ℕ) (c : Bool) → test n ≡ c → Found test t n a → Found test t (suc n) (or_later a (cond c (Some (t + n + 1)) None))
+    by : (a : Option ℕ) (c : Bool) → test n ≡ c → Found test t n a → Found test t (suc n) (option_or a (cond c (Some (t + n + 1)) None))
     by (Some s) c e f = (f.0, omega (arith, f.1), f.2)
     by None true e f = (omega arith, omega arith, λ i less. f i (omega (arith, less)))
     by None false e f = λ i less. elim (cases_eq i n) [

@@ -4,7 +4,7 @@ use Rattle.std.proofs.lemmas.Bool.{cases_lt}
 use Rattle.irq_edges.specs.declared.edges.Edge.{Edge}
 use Rattle.board_devices.specs.declared.parts.DeviceParts.{DeviceParts}
 use Rattle.board_devices.specs.Run.{run, onward, IsNextEdge}
-use Rattle.hpet_bursts.specs.Next.{or_later}
+use Rattle.std.specs.Option.{option_or}
 use Rattle.board_core.specs.Next.{at_first_edge, first_edge, next_of}
 
 front-nil : (xs ys : List Edge) → xs ++ ys ≡ [] → xs ≡ []
@@ -24,13 +24,13 @@ module _ (now : ℕ) (d : DeviceParts) where
   unfolding first_edge
   first-none zero e = refl
   first-none (suc n) e =
-      ap (λ (o : Option ℕ). or_later o (at_first_edge (now + n + 1) (run now (suc n) d).edges)) (first-none n (none-before n e))
+      ap (λ (o : Option ℕ). option_or o (at_first_edge (now + n + 1) (run now (suc n) d).edges)) (first-none n (none-before n e))
       ∙ ap (at_first_edge (now + n + 1)) e
 
   first-some : (m : ℕ) → (run now m d).edges ≡ [] → (run now (suc m) d).edges ≢ [] → first_edge now (suc m) d ≡ Some (now + m + 1)
   unfolding first_edge
   first-some m none some =
-      ap (λ (o : Option ℕ). or_later o (at_first_edge (now + m + 1) (run now (suc m) d).edges)) (first-none m none)
+      ap (λ (o : Option ℕ). option_or o (at_first_edge (now + m + 1) (run now (suc m) d).edges)) (first-none m none)
       ∙ at_first_edge-some (now + m + 1) (run now (suc m) d).edges some
 
   first-stays : (n m t : ℕ) → m ≤ n → first_edge now m d ≡ Some t → first_edge now n d ≡ Some t
@@ -38,7 +38,7 @@ module _ (now : ℕ) (d : DeviceParts) where
   first-stays zero m t le e = let none : m ≡ 0 = omega arith in subst (λ (x : ℕ). first_edge now x d ≡ Some t) none e
   first-stays (suc n) m t le e = elim (cases_lt n m) [
     | inl last ↦ let same : m ≡ suc n = omega arith in subst (λ (x : ℕ). first_edge now x d ≡ Some t) same e
-    | inr more ↦ ap (λ (o : Option ℕ). or_later o (at_first_edge (now + n + 1) (run now (suc n) d).edges)) (first-stays n m t more e)
+    | inr more ↦ ap (λ (o : Option ℕ). option_or o (at_first_edge (now + n + 1) (run now (suc n) d).edges)) (first-stays n m t more e)
   ]
 
   -- what is found by division is what the definition finds

@@ -1,9 +1,10 @@
 -- When a line changes next, when a local APIC's timer ticks next, and when a message is sent next, if
 -- no access comes.
 use Rattle.std.specs.Prelude.{ℕ, zero, suc, ◌+◌, ◌-◌, List, [], ◌∷◌, Option, Some, None}
+use Rattle.std.specs.Option.{option_or}
 use Rattle.clk_units.specs.declared.ranges.TheConstants.{RANGE_NS}
 use Rattle.irq_edges.specs.declared.edges.Edge.{Edge}
-use Rattle.hpet_bursts.specs.Next.{or_later, next_message}
+use Rattle.hpet_bursts.specs.Next.{next_message}
 use Rattle.board_types.specs.declared.parts.BoardParts.{BoardParts}
 use Rattle.board_devices.specs.declared.parts.DeviceParts.{DeviceParts}
 use Rattle.board_devices.specs.Run.{run}
@@ -22,7 +23,7 @@ at_first_edge t (e ∷ es) = Some t
 unfoldable pub first_edge : ℕ → ℕ → DeviceParts → Option ℕ
 first_edge now zero d = None
 first_edge now (suc n) d =
-    or_later (first_edge now n d) (at_first_edge (now + n + 1) (run now (suc n) d).edges)
+    option_or (first_edge now n d) (at_first_edge (now + n + 1) (run now (suc n) d).edges)
 
 -- the first nanosecond after now, and below `RANGE_NS`, in which a line changes
 abbrev pub next_of : ℕ → DeviceParts → Option ℕ

@@ -28,7 +28,7 @@ use Rattle.clockboard_c.specs.declared.board.KeptEdge.{KeptEdge}
 use Rattle.board_core.specs.Apics.{after_look}
 use Rattle.board_core.specs.Access.{ran_to, after_run, value_at, before_look, after_act, own_edges, edges_of, reply_of, after_access}
 use Rattle.board_core.specs.Pages.{after_clock, with_greatest}
-use Rattle.hpet_bursts.specs.Next.{or_later}
+use Rattle.std.specs.Option.{option_or}
 use Rattle.board_core.specs.Next.{at_first_edge, first_edge, next_of}
 use Rattle.clockboard_c.specs.Kept.{CallerBoard, LaggingBoard, seen, code_or_none, number_or_0, next_edge_of, no_kept, kept_of}
 use Rattle.clockboard_c.specs.Pages.{state_after_clock}
@@ -47,7 +47,7 @@ module _ (now k : ℕ) (d : DeviceParts) where
   unfolding first_edge
   first-none zero e = refl
   first-none (suc n) e =
-      ap (λ (o : Option ℕ). or_later o (at_first_edge (now + n + 1) (run now (suc n) d).edges)) (first-none n (before n e))
+      ap (λ (o : Option ℕ). option_or o (at_first_edge (now + n + 1) (run now (suc n) d).edges)) (first-none n (before n e))
       ∙ ap (at_first_edge (now + n + 1)) e
 
   -- a run whose first k nanoseconds have no edge goes on as one from there
@@ -74,9 +74,9 @@ module _ (now k : ℕ) (d : DeviceParts) where
       let at : now + (k + n) + 1 ≡ now + k + n + 1 = omega arith in
       let later : run now (suc (k + n)) d ≡ run (now + k) (suc n) (run now k d).state = ap (λ (x : ℕ). run now x d) (sym more) ∙ run-on (suc n) e in
       ap (λ (x : ℕ). first_edge now x d) more
-      ∙ ap (λ (o : Option ℕ). or_later o (at_first_edge (now + (k + n) + 1) (run now (suc (k + n)) d).edges)) (first-on n e)
-      ∙ ap (λ (r : Ran). or_later (first_edge (now + k) n (run now k d).state) (at_first_edge (now + (k + n) + 1) r.edges)) later
-      ∙ ap (λ (t : ℕ). or_later (first_edge (now + k) n (run now k d).state) (at_first_edge t (run (now + k) (suc n) (run now k d).state).edges)) at
+      ∙ ap (λ (o : Option ℕ). option_or o (at_first_edge (now + (k + n) + 1) (run now (suc (k + n)) d).edges)) (first-on n e)
+      ∙ ap (λ (r : Ran). option_or (first_edge (now + k) n (run now k d).state) (at_first_edge (now + (k + n) + 1) r.edges)) later
+      ∙ ap (λ (t : ℕ). option_or (first_edge (now + k) n (run now k d).state) (at_first_edge t (run (now + k) (suc n) (run now k d).state).edges)) at
 
   next-on : now + k < RANGE_NS → (run now k d).edges ≡ [] → next_of (now + k) (run now k d).state ≡ next_of now d
   next-on range e =
@@ -88,8 +88,8 @@ first-read : (port now n : ℕ) (d : DeviceParts) → first_edge now n (after_pi
 unfolding first_edge
 first-read port now zero d = refl
 first-read port now (suc n) d =
-    ap (λ (o : Option ℕ). or_later o (at_first_edge (now + n + 1) (run now (suc n) (after_pit_read port d)).edges)) (first-read port now n d)
-    ∙ ap (λ (r : Ran). or_later (first_edge now n d) (at_first_edge (now + n + 1) r.edges)) (run-read port now (suc n) d)
+    ap (λ (o : Option ℕ). option_or o (at_first_edge (now + n + 1) (run now (suc n) (after_pit_read port d)).edges)) (first-read port now n d)
+    ∙ ap (λ (r : Ran). option_or (first_edge now n d) (at_first_edge (now + n + 1) r.edges)) (run-read port now (suc n) d)
 
 -- the next edge after such an access is that after its run
 next-ran : (s : BoardParts) (cpu h t : ℕ) (a : Access) → leaves_lines a ≡ true

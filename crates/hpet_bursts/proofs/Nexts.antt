@@ -4,14 +4,15 @@ use Rattle.std.proofs.lemmas.Bool.{le-leb, lt-leb}
 use Rattle.hpet_registers.specs.declared.parts.HpetParts.{HpetParts}
 use Rattle.hpet_bursts.specs.Messages.{message_at, message_times}
 use Rattle.hpet_bursts.specs.Bursts.{burst_from, burst_in}
-use Rattle.hpet_bursts.specs.Next.{or_later, first_where, sends_below}
+use Rattle.std.specs.Option.{option_or}
+use Rattle.hpet_bursts.specs.Next.{first_where, sends_below}
 use Rattle.hpet_bursts.specs.private.Earlier.{first_of, earlier}
 
 -- no time at all is found among no timers
 pub never : (t n : ℕ) (h : HpetParts) → None ≡ first_where (sends_below 0 t h) t n
 unfolding first_where sends_below
 never t zero h = refl
-never t (suc n) h = ap (λ (x : Option ℕ). or_later x None) (never t n h)
+never t (suc n) h = ap (λ (x : Option ℕ). option_or x None) (never t n h)
 
 -- a time that is found isn't after the last nanosecond
 IsUpTo : ℕ → Option ℕ → Type 0
@@ -23,14 +24,14 @@ unfolding first_where IsUpTo
 found-up_to test t zero = tt
 found-up_to test t (suc n) = by (first_where test t n) (test n) (found-up_to test t n)
   where
-    by : (a : Option ℕ) (b : Bool) → IsUpTo (t + n) a → IsUpTo (t + suc n) (or_later a (cond b (Some (t + n + 1)) None))
+    by : (a : Option ℕ) (b : Bool) → IsUpTo (t + n) a → IsUpTo (t + suc n) (option_or a (cond b (Some (t + n + 1)) None))
     by (Some x) b up_to = omega (arith, up_to)
     by None true up_to = omega arith
     by None false up_to = tt
 
 -- the earlier of two times so far, and then both tests at one more
 one-more : (a b : Option ℕ) (x y : Bool) (u v : ℕ) → IsUpTo v a → IsUpTo v b → v < u
-    → earlier (or_later a (cond x (Some u) None)) (or_later b (cond y (Some u) None)) ≡ or_later (earlier a b) (cond (x || y) (Some u) None)
+    → earlier (option_or a (cond x (Some u) None)) (option_or b (cond y (Some u) None)) ≡ option_or (earlier a b) (cond (x || y) (Some u) None)
 unfolding earlier IsUpTo
 one-more None None true true u v h k less = same (leb u u)
   where
@@ -46,7 +47,7 @@ one-more None (Some b) true y u v h k less = ap (λ (c : Bool). cond c (Some u) 
 one-more None (Some b) false y u v h k less = refl
 one-more (Some a) (Some b) x y u v h k less = found (leb a b)
   where
-    found : (c : Bool) → cond c (Some a) (Some b) ≡ or_later (cond c (Some a) (Some b)) (cond (x || y) (Some u) None)
+    found : (c : Bool) → cond c (Some a) (Some b) ≡ option_or (cond c (Some a) (Some b)) (cond (x || y) (Some u) None)
     found true = refl
     found false = refl
 
@@ -56,7 +57,7 @@ unfolding first_where earlier
 earlier-where p q t zero = refl
 earlier-where p q t (suc n) =
     one-more (first_where p t n) (first_where q t n) (p n) (q n) (t + n + 1) (t + n) (found-up_to p t n) (found-up_to q t n) (omega arith)
-    ∙ ap (λ (x : Option ℕ). or_later x (cond (p n || q n) (Some (t + n + 1)) None)) (earlier-where p q t n)
+    ∙ ap (λ (x : Option ℕ). option_or x (cond (p n || q n) (Some (t + n + 1)) None)) (earlier-where p q t n)
 
 -- a timer's first message is that of its burst
 first-of_burst : (k t n : ℕ) (h : HpetParts) → first_of (burst_in k t n h) ≡ first_where (λ i. message_at k t i h) t n
@@ -64,10 +65,10 @@ unfolding first_where
 first-of_burst k t zero h = refl
 first-of_burst k t (suc n) h =
     by (message_times k t n h) (message_at k t n h)
-    ∙ ap (λ (x : Option ℕ). or_later x (cond (message_at k t n h) (Some (t + n + 1)) None)) (first-of_burst k t n h)
+    ∙ ap (λ (x : Option ℕ). option_or x (cond (message_at k t n h) (Some (t + n + 1)) None)) (first-of_burst k t n h)
   where
     by : (ts : List ℕ) (b : Bool) → first_of (burst_from k h (ts ++ cond b ((t + n + 1) ∷ []) []))
-        ≡ or_later (first_of (burst_from k h ts)) (cond b (Some (t + n + 1)) None)
+        ≡ option_or (first_of (burst_from k h ts)) (cond b (Some (t + n + 1)) None)
     by [] true = refl
     by [] false = refl
     by (x ∷ ts) b = refl

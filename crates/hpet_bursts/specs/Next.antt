@@ -1,18 +1,14 @@
 -- When a message is sent next, if no access comes.
 use Rattle.std.specs.Prelude.{ℕ, zero, suc, ◌+◌, Bool, false, ◌||◌, if◌then◌else◌, Option, Some, None}
+use Rattle.std.specs.Option.{option_or}
 use Rattle.hpet_registers.specs.declared.parts.HpetParts.{HpetParts}
 use Rattle.hpet_bursts.specs.Messages.{message_at}
-
--- a nanosecond that was found before, or else this one
-abbrev pub or_later : Option ℕ → Option ℕ → Option ℕ
-or_later (Some t) later = Some t
-or_later None later = later
 
 -- the first of the n nanoseconds after t of which the test holds, by how many came before it
 unfoldable pub first_where : (ℕ → Bool) → ℕ → ℕ → Option ℕ
 first_where test t zero = None
 first_where test t (suc n) =
-    or_later (first_where test t n) (if test n then Some (t + n + 1) else None)
+    option_or (first_where test t n) (if test n then Some (t + n + 1) else None)
 
 -- whether one of the timers below k sends a message in the nanosecond after t + n
 unfoldable pub sends_below : ℕ → ℕ → HpetParts → ℕ → Bool

@@ -14,9 +14,8 @@ has_digits byte = nat_le (byte / 16) 9 && nat_le (byte % 16) 9
 -- the byte spells a number of low to high; in BCD its digits are at most 9
 unfoldable pub is_spelt : Bool → ℕ → ℕ → ℕ → Bool
 is_spelt binary low high byte =
-    (binary || has_digits byte)
-    && nat_le low (spelt binary byte)
-    && nat_le (spelt binary byte) high
+    let number = spelt binary byte in
+    (binary || has_digits byte) && nat_le low number && nat_le number high
 
 -- the number read from a byte of the range low to high; an invalid byte counts as low (own)
 unfoldable pub number_in : Bool → ℕ → ℕ → ℕ → ℕ
