@@ -20,7 +20,7 @@ use Rattle.edge_hooks.specs.Messages.{message_of}
 use Rattle.edge_hooks.specs.declared.deliveries.Delivery.{Delivery}
 use Rattle.edge_hooks.specs.declared.messages.Message.{Message}
 use Rattle.edge_hooks.specs.declared.sent.Sent.{Sent}
-use Rattle.reply_text.specs.Text.{edge_text, msg_text, board_text, page_text, clock_text, hv_text}
+use Rattle.reply_text.specs.Text.{edge_text, msg_text, value_text, page_text, clock_text, hv_text}
 use Rattle.race_phase.specs.declared.deliveries.Deliveries.{Deliveries}
 use Rattle.race_phase.specs.declared.records.Answer.{Answer}
 use Rattle.race_phase.specs.declared.records.Answer.TheVariants.{Acted, PageIs, ClockIs, HvIs}
@@ -70,7 +70,8 @@ messages_text ds bs = flat_map (λ b. msg_text (sent_to ds.cpus b)) bs
 -- the block of a record: an access has its edges and its messages before its line
 unfoldable pub block_of : Deliveries → ℕ → Answer → List ℕ
 block_of ds line (Acted reply) =
-    edges_text ds reply.edges ++ messages_text ds reply.bursts ++ board_text line reply
+    edges_text ds reply.edges ++ messages_text ds reply.bursts
+    ++ value_text line reply.number reply.value
 block_of ds line (PageIs reply) = page_text line reply
 block_of ds line (ClockIs reply) = clock_text line reply
 block_of ds line (HvIs reply) = hv_text line reply

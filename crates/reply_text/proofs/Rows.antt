@@ -10,7 +10,7 @@ use Rattle.pvclock_page.specs.declared.page.ClockReply.TheVariants.{Off as Clock
 use Rattle.hv_page.specs.declared.page.HvReply.TheVariants.{Off as HvOff, On as HvOn}
 use Rattle.reply_text.specs.Words.{hex_text, hexes}
 use Rattle.reply_text.specs.Soak.{soak_text}
-use Rattle.reply_text.specs.Text.{edge_text, msg_text, board_text, value_text, page_text, clock_text, hv_text, save_text, move_text, final_text, state_text, refused_text}
+use Rattle.reply_text.specs.Text.{edge_text, msg_text, value_text, page_text, clock_text, hv_text, save_text, move_text, final_text, state_text, refused_text}
 use Rattle.reply_text.specs.declared.ends.Reason.TheVariants.{Form, Steal, Cpu, CounterFell, StateBytes, TooLong, TooMany, NoEnd}
 use Rattle.reply_text.specs.declared.ends.Refused.TheVariants.{Invalid, Range, Versions, Spent}
 
@@ -35,7 +35,7 @@ messages = refl
 
 -- replies: the line, the number and the value
 abbrev reply : ℕ → ℕ → Value → List ℕ
-reply line number value = board_text line (record { number = number; value = value; edges = []; bursts = [] })
+reply = value_text
 
 registers : reply 3 1 Nothing ∷ reply 7 5 (Byte 4) ∷ reply 5 3 (Word 2 0xffff)
     ∷ reply 4 2 (Word 4 0x989680) ∷ reply 3 1 (Word 8 0x009896808086a201) ∷ []

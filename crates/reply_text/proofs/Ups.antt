@@ -1,7 +1,8 @@
 -- Lemmas on the lines that are up.
 use Rattle.std.proofs.Common.{◌≡◌, ℕ, ◌+◌, ◌<◌, Bool, true, false, cond, List, [], ◌∷◌, ◌++◌, length, drop, get_or, refl, sym, decimal, append_assoc, ◌||◌}
+use Rattle.std.specs.List.{items_where_true}
 use Rattle.std.proofs.lemmas.List.{drop_more}
-use Rattle.reply_text.specs.Text.{up_numbers, up_word}
+use Rattle.reply_text.specs.Text.{up_word}
 
 -- whether there is one
 abbrev pub is_some_up : List ℕ → Bool
@@ -19,15 +20,17 @@ with_line true n ns = n ∷ ns
 with_line false n ns = ns
 
 -- one line more
-pub up_numbers-cons : (up : Bool) (n : ℕ) (ns : List ℕ) (levels : List Bool) → up_numbers (n ∷ ns) (up ∷ levels) ≡ with_line up n (up_numbers ns levels)
-up_numbers-cons true n ns levels = refl
-up_numbers-cons false n ns levels = refl
+pub items_where_true-cons : (up : Bool) (n : ℕ) (ns : List ℕ) (levels : List Bool)
+    → items_where_true (up ∷ levels) (n ∷ ns) ≡ with_line up n (items_where_true levels ns)
+items_where_true-cons true n ns levels = refl
+items_where_true-cons false n ns levels = refl
 
 -- one line more, by its place
-pub up_numbers-drop : (ns : List ℕ) (levels : List Bool) (k : ℕ) → k < length ns → k < length levels
-    → up_numbers (drop k ns) (drop k levels) ≡ with_line (get_or levels k false) (get_or ns k 0) (up_numbers (drop (k + 1) ns) (drop (k + 1) levels))
-up_numbers-drop ns levels k a b =
-    rw (drop_more ns k 0 a, drop_more levels k false b) (up_numbers-cons (get_or levels k false) (get_or ns k 0) (drop (k + 1) ns) (drop (k + 1) levels))
+pub items_where_true-drop : (ns : List ℕ) (levels : List Bool) (k : ℕ) → k < length ns → k < length levels
+    → items_where_true (drop k levels) (drop k ns)
+    ≡ with_line (get_or levels k false) (get_or ns k 0) (items_where_true (drop (k + 1) levels) (drop (k + 1) ns))
+items_where_true-drop ns levels k a b =
+    rw (drop_more ns k 0 a, drop_more levels k false b) (items_where_true-cons (get_or levels k false) (get_or ns k 0) (drop (k + 1) ns) (drop (k + 1) levels))
 
 -- its number in front of the others
 pub joined-with_line : (up : Bool) (n : ℕ) (ns rest : List ℕ)
@@ -44,14 +47,15 @@ is_some_up-with_line false n ns = refl
 -- the step of a loop from the last line to the first
 pub put_step : (ns : List ℕ) (levels : List Bool) (k place : ℕ) (found : Bool) (rest old new : List ℕ)
     → k + 1 ≡ place → k < length ns → k < length levels
-    → old ≡ joined (up_numbers (drop place ns) (drop place levels)) ++ rest
-    → found ≡ is_some_up (up_numbers (drop place ns) (drop place levels))
+    → old ≡ joined (items_where_true (drop place levels) (drop place ns)) ++ rest
+    → found ≡ is_some_up (items_where_true (drop place levels) (drop place ns))
     → new ≡ cond (get_or levels k false) (decimal (get_or ns k 0) ++ cond found (44 ∷ old) old) old
-    → (new ≡ joined (up_numbers (drop k ns) (drop k levels)) ++ rest) × ((get_or levels k false || found) ≡ is_some_up (up_numbers (drop k ns) (drop k levels)))
+    → (new ≡ joined (items_where_true (drop k levels) (drop k ns)) ++ rest)
+    × ((get_or levels k false || found) ≡ is_some_up (items_where_true (drop k levels) (drop k ns)))
 put_step ns levels k place found rest old new next a b is_old is_found is_new =
-    let step = up_numbers-drop ns levels k a b in (
+    let step = items_where_true-drop ns levels k a b in (
       rw (is_new, is_old, is_found, ← next, step)
-          (joined-with_line (get_or levels k false) (get_or ns k 0) (up_numbers (drop (k + 1) ns) (drop (k + 1) levels)) rest),
+          (joined-with_line (get_or levels k false) (get_or ns k 0) (items_where_true (drop (k + 1) levels) (drop (k + 1) ns)) rest),
       rw (is_found, ← next, step)
-          (is_some_up-with_line (get_or levels k false) (get_or ns k 0) (up_numbers (drop (k + 1) ns) (drop (k + 1) levels))),
+          (is_some_up-with_line (get_or levels k false) (get_or ns k 0) (items_where_true (drop (k + 1) levels) (drop (k + 1) ns))),
     )

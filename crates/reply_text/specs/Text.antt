@@ -4,20 +4,18 @@ use Rattle.std.specs.Prelude.{
   ◌*◌,
   min,
   Bool,
-  true,
-  false,
   List,
   [],
   ◌∷◌,
   ◌++◌,
   Option,
-  Some,
-  None,
   codes,
   decimal,
+  if◌then◌else◌,
 }
+use Rattle.std.specs.List.{items_where_true}
+use Rattle.std.specs.Option.{option_map_or}
 use Rattle.std.specs.Fmt.{signed_decimal}
-use Rattle.board_types.specs.declared.reply.Reply.{Reply}
 use Rattle.board_types.specs.declared.reply.Value.{Value}
 use Rattle.board_types.specs.declared.reply.Value.TheVariants.{
   Nothing,
@@ -55,16 +53,14 @@ use Rattle.reply_text.specs.declared.ends.Refused.TheVariants.{Invalid, Range, V
 
 -- a direction
 abbrev pub direction : Bool → List ℕ
-direction true = codes "up"
-direction false = codes "down"
+direction up = if up then codes "up" else codes "down"
 
 -- `edge AT LINE up`, `edge AT LINE down`, and with a delivery `edge AT LINE up CPU VV`
 unfoldable pub edge_text : Edge → Option Delivery → List ℕ
-edge_text e None =
-    line_of (codes "edge") (decimal e.at ∷ decimal e.line ∷ direction e.up ∷ [])
-edge_text e (Some to) =
+edge_text e to =
     line_of (codes "edge")
-    (decimal e.at ∷ decimal e.line ∷ direction e.up ∷ decimal to.cpu ∷ hex_text 2 to.vector ∷ [])
+    (decimal e.at ∷ decimal e.line ∷ direction e.up
+    ∷ option_map_or (λ d. decimal d.cpu ∷ hex_text 2 d.vector ∷ []) to [])
 
 -- `msg FIRST TIMER CPU VV COUNT EVERY`: the messages of a timer, and who gets each of them
 unfoldable pub msg_text : Sent → List ℕ
@@ -80,16 +76,11 @@ value_words (Byte b) = hex_text 2 b ∷ []
 value_words (Word width v) = hex_text (2 * min width 8) v ∷ []
 value_words (Counts c) = decimal c.due ∷ decimal c.rises ∷ decimal c.queue ∷ decimal c.lost ∷ []
 value_words (Wall version sec nsec) = decimal version ∷ decimal sec ∷ decimal nsec ∷ []
-value_words (Next None) = codes "none" ∷ []
-value_words (Next (Some t)) = decimal t ∷ []
+value_words (Next next) = option_map_or decimal next (codes "none") ∷ []
 
 -- `LINE NUMBER`, and a space and the value where there is one
 unfoldable pub value_text : ℕ → ℕ → Value → List ℕ
 value_text line number value = line_of (decimal line) (decimal number ∷ value_words value)
-
--- the same of a board's reply, whose edges have lines of their own
-abbrev pub board_text : ℕ → Reply → List ℕ
-board_text line reply = value_text line reply.number reply.value
 
 -- `LINE page VERSION STAMP SYSTEM MUL SHIFT FLAGS READING`, or `LINE page off`
 unfoldable pub page_text : ℕ → PageReply → List ℕ
@@ -124,13 +115,6 @@ unfoldable pub move_text : ℕ → ℕ → ℕ → List ℕ
 move_text line number time =
     line_of (decimal line) (decimal number ∷ codes "moved" ∷ decimal time ∷ [])
 
--- the numbers of the lines that are up, rising
-abbrev pub up_numbers : List ℕ → List Bool → List ℕ
-up_numbers [] levels = []
-up_numbers (n ∷ ns) [] = []
-up_numbers (n ∷ ns) (true ∷ levels) = n ∷ up_numbers ns levels
-up_numbers (n ∷ ns) (false ∷ levels) = up_numbers ns levels
-
 -- LINES: the numbers of the lines that are up, joined by commas, or `-`
 abbrev pub up_word : List ℕ → List ℕ
 up_word [] = codes "-"
@@ -142,7 +126,7 @@ unfoldable pub final_text : ℕ → ℕ → ℕ → Lines → List ℕ
 final_text time accesses greatest lines =
     line_of (codes "final")
     (decimal time ∷ decimal accesses ∷ decimal greatest
-    ∷ up_word (up_numbers line_numbers lines.levels) ∷ [])
+    ∷ up_word (items_where_true lines.levels line_numbers) ∷ [])
 
 -- `state HEXES`
 unfoldable pub state_text : List ℕ → List ℕ

@@ -16,6 +16,7 @@ ghost use Rattle.std.specs.Prelude.{
   vec_len,
   vec_capacity,
 };
+ghost use Rattle.std.specs.List.{items_where_true};
 ghost use Rattle.irq_edges.specs.Lines.{line_numbers};
 ghost use Rattle.reply_text.specs.declared.tail.TheConstants.{LONGEST};
 ghost use Rattle.reply_text.specs.Words.{spaced};
@@ -24,7 +25,6 @@ ghost use Rattle.reply_text.specs.Text.{
   refused_text,
   reason_words,
   up_word,
-  up_numbers,
 };
 
 use crate::tail::Tail;
@@ -90,7 +90,7 @@ pub fn final_line(
 
 /// The end of that line, from the lines that are up on.
 fn up_tail(levels: &[bool; 6]) -> Tail
-    ensures value { result ≡ spaced (up_word (up_numbers line_numbers levels.now) ∷ []) }
+    ensures value { result ≡ spaced (up_word (items_where_true levels.now line_numbers) ∷ []) }
     ensures short { length result ≤ 27 }
 {
     let mut tail = Tail::new();

@@ -17,7 +17,6 @@ ghost use Rattle.std.specs.Prelude.{
 };
 ghost use Rattle.reply_text.specs.Words.{spaced};
 ghost use Rattle.reply_text.specs.Text.{
-  board_text,
   edge_text,
   msg_text,
   value_text,
@@ -32,10 +31,10 @@ use irq_edges::Edge;
 
 /// The line of a board's reply: the line of the record, the number of the access, and its value where it has one.
 pub fn board_line(line: u64, reply: &Reply, out: &mut Vec<u8>) -> Result<(), NoMemory>
-    ensures ok { OnOk result (out.new.items ≡ out.old.items ++ board_text line reply.now) }
+    ensures ok { OnOk result (out.new.items ≡ out.old.items ++ value_text line reply.now.number reply.now.value) }
     ensures err { OnErr result (out.new.items ≡ out.old.items) }
     ensures full { OnErr result (vec_capacity out.old
-        < vec_len out.old + length (board_text line reply.now)) }
+        < vec_len out.old + length (value_text line reply.now.number reply.now.value)) }
 {
     value_line(line, reply.number, &reply.value, out)
 }

@@ -32,6 +32,7 @@ use Rattle.std.proofs.Common.{
   append-nil,
 }
 use Rattle.std.specs.Fmt.{signed_decimal}
+use Rattle.std.specs.List.{items_where_true}
 use Rattle.board_types.specs.declared.access.Access.TheVariants.{Step}
 use Rattle.board_types.specs.declared.parts.BoardParts.{BoardParts}
 use Rattle.board_types.specs.declared.reply.Reply.{Reply}
@@ -55,7 +56,6 @@ use Rattle.save_state.specs.Writing.{bytes_of}
 use Rattle.reply_text.specs.Words.{hex_text, hexes, line_of, spaced}
 use Rattle.reply_text.specs.Text.{
   value_text,
-  board_text,
   page_text,
   clock_text,
   hv_text,
@@ -67,7 +67,6 @@ use Rattle.reply_text.specs.Text.{
   reason_words,
   value_words,
   up_word,
-  up_numbers,
 }
 use Rattle.reply_text.specs.declared.ends.Refused.{Refused}
 use Rattle.reply_text.specs.declared.ends.Refused.TheVariants.{Invalid}
@@ -126,7 +125,7 @@ spaced_ends (w ∷ ws) = ends_after (32 ∷ w) (spaced ws) (spaced_ends ws)
 line_ends : (w : List ℕ) (ws : List (List ℕ)) → EndsLine (line_of w ws)
 line_ends w ws = ends_after w (spaced ws) (spaced_ends ws)
 
-board_ends : (line : ℕ) (reply : Reply) → EndsLine (board_text line reply)
+board_ends : (line : ℕ) (reply : Reply) → EndsLine (value_text line reply.number reply.value)
 unfolding value_text
 board_ends line reply = line_ends (decimal line) (decimal reply.number ∷ value_words reply.value)
 
@@ -169,12 +168,13 @@ final_ends : (b : BoardParts) → EndsLine (final_of b)
 unfolding final_text
 final_ends b =
     line_ends (codes "final")
-    (decimal (now_of b) ∷ decimal b.accesses ∷ decimal b.greatest ∷ up_word (up_numbers line_numbers (levels (devices_in b))) ∷ [])
+    (decimal (now_of b) ∷ decimal b.accesses ∷ decimal b.greatest ∷ up_word (items_where_true (levels (devices_in b)) line_numbers) ∷ [])
 
 -- each answer
 block_ends : (ds : Deliveries) (line : ℕ) (reply : Reply) → EndsLine (block_of ds line (Acted reply))
 unfolding block_of
-block_ends ds line reply = ends_after (edges_text ds reply.edges ++ messages_text ds reply.bursts) (board_text line reply) (board_ends line reply)
+block_ends ds line reply =
+    ends_after (edges_text ds reply.edges ++ messages_text ds reply.bursts) (value_text line reply.number reply.value) (board_ends line reply)
 
 unless_whole : (o : Option Refused) (line : ℕ) (text : List ℕ) (b : BoardParts) → EndsLine text → IsWholeLines (printed (answer_unless o line text b))
 unless_whole (Some why) line text b ends = inr (refused_ends line why)

@@ -1,11 +1,11 @@
 use Rattle.std.proofs.Common.{◌≡◌, ◌+◌, ◌*◌, ◌≤◌, ◌++◌, [], ◌∷◌, drop, length}
+use Rattle.std.specs.List.{items_where_true}
 use Rattle.irq_edges.specs.Lines.{line_numbers}
-use Rattle.reply_text.specs.Text.{up_numbers}
 use Rattle.reply_text.proofs.Ups.{is_some_up, joined}
 use Rattle.reply_text.proofs.ends.up_tail.Given as goal
 
 abbrev pub invariant-loop-place : goal.invariant-loop-place
 invariant-loop-place l =
-    (l.tail ≡ joined (up_numbers (drop l.place line_numbers) (drop l.place l.levels)) ++ 10 ∷ [])
-    × (l.found ≡ is_some_up (up_numbers (drop l.place line_numbers) (drop l.place l.levels)))
+    (l.tail ≡ joined (items_where_true (drop l.place l.levels) (drop l.place line_numbers)) ++ 10 ∷ [])
+    × (l.found ≡ is_some_up (items_where_true (drop l.place l.levels) (drop l.place line_numbers)))
     × (length l.tail + 4 * l.place ≤ 25)

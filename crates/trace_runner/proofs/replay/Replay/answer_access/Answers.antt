@@ -5,7 +5,7 @@ use Rattle.irq_edges.specs.declared.edges.Edge.{Edge}
 use Rattle.irq_edges.specs.declared.bursts.Burst.{Burst}
 use Rattle.board_types.specs.declared.parts.BoardParts.{BoardParts}
 use Rattle.board_types.specs.declared.reply.Reply.{Reply}
-use Rattle.reply_text.specs.Text.{board_text}
+use Rattle.reply_text.specs.Text.{value_text}
 use Rattle.race_phase.specs.declared.deliveries.Deliveries.{Deliveries}
 use Rattle.race_phase.specs.declared.records.Answer.TheVariants.{Acted}
 use Rattle.race_phase.specs.Blocks.{block_of, edges_text, messages_text}
@@ -18,11 +18,12 @@ use Rattle.trace_runner.proofs.Counts.{access-printed}
 use Rattle.trace_runner.proofs.replay.Replay.answer_access.Goals as goal
 
 -- the block of a reply without edges and messages is its line
-quiet : (ds : Deliveries) (line : ℕ) (reply : Reply) → reply.edges ≡ [] → reply.bursts ≡ [] → block_of ds line (Acted reply) ≡ board_text line reply
+quiet : (ds : Deliveries) (line : ℕ) (reply : Reply) → reply.edges ≡ [] → reply.bursts ≡ []
+    → block_of ds line (Acted reply) ≡ value_text line reply.number reply.value
 unfolding block_of
 quiet ds line reply edges bursts =
-    ap (λ (es : List Edge). edges_text ds es ++ messages_text ds reply.bursts ++ board_text line reply) edges
-    ∙ ap (λ (bs : List Burst). messages_text ds bs ++ board_text line reply) bursts
+    ap (λ (es : List Edge). edges_text ds es ++ messages_text ds reply.bursts ++ value_text line reply.number reply.value) edges
+    ∙ ap (λ (bs : List Burst). messages_text ds bs ++ value_text line reply.number reply.value) bursts
 
 pub returns-then-is_empty-2 : goal.returns-then-is_empty-2
 returns-then-is_empty-2 c =
