@@ -28,7 +28,7 @@ use Rattle.std.proofs.Common.{
 use Rattle.std.specs.Prelude.{codes}
 use Rattle.std.proofs.lemmas.Fmt.{length-decimal-le}
 use Rattle.trace_gen.specs.Draws.{at_key, drawn, kind_of, byte_of}
-use Rattle.trace_gen.specs.Text.{act_text, record_text, records_text, enable_text, enables_text, header_text, start_text, end_text, gen_text}
+use Rattle.trace_gen.specs.Text.{act_text, record_text, records_text, enable_text, enables_text, header_text, gen_text}
 use Rattle.trace_gen.specs.declared.draws.Draws.{Draws}
 
 -- its numbers are in range
@@ -109,7 +109,7 @@ length-enables_text (suc count) cpu h =
 
 -- a whole trace
 pub length-gen_text : (key records cpus : ℕ) → records ≤ 200000 → 0 < cpus → cpus ≤ 16 → length (gen_text key records cpus) ≤ 2 ^ 24
-unfolding gen_text header_text start_text end_text
+unfolding gen_text header_text
 length-gen_text key records cpus few some most =
     let number = length-number cpus (omega arith) in
     let pages = length-enables_text cpus 0 (omega arith) in

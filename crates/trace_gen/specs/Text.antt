@@ -70,16 +70,10 @@ unfoldable pub header_text : ℕ → List ℕ
 header_text cpus =
     codes "clockboard 1\nguest 2000000\ncpus " ++ (decimal cpus ++ codes "\nbegin\n")
 
--- the HPET is started
-unfoldable pub start_text : List ℕ
-start_text = codes "0 0 hw 10 4 1\n"
-
--- the last line
-unfoldable pub end_text : List ℕ
-end_text = codes "end\n"
-
--- the whole trace, by its key, the number of its records, and the number of its processors
+-- the whole trace, by its key, the number of its records, and the number of its processors: the
+-- pages are switched on, and the HPET is started, before the records
 unfoldable pub gen_text : ℕ → ℕ → ℕ → List ℕ
 gen_text key records cpus =
     header_text cpus
-    ++ (enables_text cpus 0 ++ (start_text ++ (records_text records cpus (at_key key) ++ end_text)))
+    ++ (enables_text cpus 0
+    ++ (codes "0 0 hw 10 4 1\n" ++ (records_text records cpus (at_key key) ++ codes "end\n")))

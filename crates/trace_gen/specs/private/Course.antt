@@ -1,17 +1,17 @@
 -- What is still to come of a trace, after the lines that were made.
-use Rattle.std.specs.Prelude.{◌≡◌, ℕ, ◌+◌, ◌-◌, ◌*◌, ◌<◌, ◌≤◌, List, [], ◌++◌, length}
-use Rattle.trace_gen.specs.Text.{records_text, enables_text, header_text, start_text, end_text}
+use Rattle.std.specs.Prelude.{codes, ◌≡◌, ℕ, ◌+◌, ◌-◌, ◌*◌, ◌<◌, ◌≤◌, List, [], ◌++◌, length}
+use Rattle.trace_gen.specs.Text.{records_text, enables_text, header_text}
 use Rattle.trace_gen.specs.declared.course.Course.{Course}
 use Rattle.trace_gen.specs.declared.course.Stage.{Stage}
 use Rattle.trace_gen.specs.declared.course.Stage.TheVariants.{Header, Enabling, Drawing, Ended}
 
 -- the records, and the last line
 abbrev pub drawing : Course → List ℕ
-drawing c = records_text c.left c.cpus c.draws ++ end_text
+drawing c = records_text c.left c.cpus c.draws ++ codes "end\n"
 
 -- the pages that are still to be switched on, and what follows them
 abbrev pub enabling : Course → List ℕ
-enabling c = enables_text (c.cpus - c.enabled) c.enabled ++ (start_text ++ drawing c)
+enabling c = enables_text (c.cpus - c.enabled) c.enabled ++ (codes "0 0 hw 10 4 1\n" ++ drawing c)
 
 abbrev pub text_at : Stage → Course → List ℕ
 text_at Header c = header_text c.cpus ++ enabling c
