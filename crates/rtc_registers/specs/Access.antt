@@ -53,6 +53,4 @@ rtc_written byte r = record r {
 
 -- PF is set, for a periodic event that is delivered late (own)
 unfoldable pub flagged : RtcParts → RtcParts
-flagged r = record r {
-  bytes = slice_set r.bytes 0x0c (flags_byte true (af_of r) (uf_of r));
-}
+flagged r = record r { bytes = slice_set r.bytes 0x0c (flags_byte true (af_of r) (uf_of r)) }

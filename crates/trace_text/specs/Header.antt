@@ -204,11 +204,9 @@ header_of head = record { begin = head.begin; routes = head.routes }
 
 -- and what is known after it: each processor's counter before is the anchor's start
 abbrev pub body_of : Head → Body
-body_of head = record {
-  format = (board_of head.begin).format;
-  cpus = (board_of head.begin).cpus;
-  before = replicate 64 (board_of head.begin).anchor.start;
-}
+body_of head =
+    let b : BoardParts = board_of head.begin in
+    record { format = b.format; cpus = b.cpus; before = replicate 64 b.anchor.start }
 
 -- a delivery goes to a processor that is there, with a vector from 10h on
 abbrev pub IsRoute : ℕ → Option Delivery → Type 0

@@ -23,7 +23,7 @@ use Rattle.std.specs.Prelude.{
   ◌<◌,
   ◌≤◌,
 }
-use Rattle.std.specs.Option.{option_map}
+use Rattle.std.specs.Option.{option_map, option_map_or}
 use Rattle.board_types.specs.Legal.{is_legal}
 use Rattle.board_types.specs.declared.access.Access.{Access}
 use Rattle.board_types.specs.declared.access.Access.TheVariants.{
@@ -136,13 +136,10 @@ abbrev pub apic_counts : Body → ℕ → Result Job Reason
 apic_counts body p = from_format APIC_FORMAT body (on_cpu body p (Ask (Act (CountsOf (Apic p)))))
 
 -- `counts WHO`, by the source that its first word names, if it names one
-abbrev pub counts_of : Body → List (List ℕ) → Option TickSource → Result Job Reason
-counts_of body ws (Some who) = last (board body (CountsOf who)) (rest ws)
-counts_of body ws None = place apic (λ p. last (apic_counts body p)) ws
-
--- `counts WHO`
 abbrev pub counts_row : Body → List (List ℕ) → Result Job Reason
-counts_row body ws = counts_of body ws (source ws)
+counts_row body ws =
+    option_map_or (λ who. last (board body (CountsOf who)) (rest ws)) (source ws)
+    (place apic (λ p. last (apic_counts body p)) ws)
 
 -- `P`, last in its line
 abbrev pub page_at : Body → List (List ℕ) → Result ℕ Reason

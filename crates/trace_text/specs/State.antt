@@ -18,6 +18,7 @@ use Rattle.std.specs.Prelude.{
   Err,
   if◌then◌else◌,
 }
+use Rattle.std.specs.Option.{option_map_or}
 use Rattle.std.specs.Result.{result_ok}
 use Rattle.hex.specs.Hex.{decode_of}
 use Rattle.board_core.specs.Upgrade.{upgraded_to}
@@ -53,11 +54,8 @@ abbrev pub in_format : ℕ → BoardParts → Result BoardParts Reason
 in_format format b =
     if nat_lt format b.format then Err (StateBytes 8) else Ok (upgraded_to format b)
 
--- the board that bytes are, by their first fault, if they have one
-abbrev pub restored_by : ℕ → List ℕ → Option StateFault → Result BoardParts Reason
-restored_by format bytes (Some fault) = Err (StateBytes (place_in format bytes fault))
-restored_by format bytes None = in_format format (board_in bytes)
-
--- the board that a trace of this format begins with, by these bytes
+-- the board that a trace of this format begins with, by these bytes, unless they have a fault
 unfoldable pub restored : ℕ → List ℕ → Result BoardParts Reason
-restored format bytes = restored_by format bytes (fault_of bytes)
+restored format bytes =
+    option_map_or (λ fault. Err (StateBytes (place_in format bytes fault))) (fault_of bytes)
+    (in_format format (board_in bytes))

@@ -18,6 +18,7 @@ use Rattle.std.specs.Prelude.{
   Option,
   Some,
   None,
+  option_and_then,
   if◌then◌else◌,
 }
 use Rattle.std.specs.List.{slice_split, list_all, starts_with}
@@ -56,8 +57,7 @@ number_in base word =
 
 -- a number, where it passes a test
 abbrev pub such_that : (ℕ → Bool) → Option ℕ → Option ℕ
-such_that test None = None
-such_that test (Some n) = if test n then Some n else None
+such_that test o = option_and_then (λ n. if test n then Some n else None) o
 
 -- DEC: a decimal number below 2^64, without sign and without leading zeros
 unfoldable pub decimal_in : List ℕ → Option ℕ
