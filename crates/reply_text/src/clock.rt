@@ -54,10 +54,13 @@ pub fn clock_line(line: u64, reply: &ClockReply, out: &mut Vec<u8>) -> Result<()
     let mut tail = Tail::new();
     match *reply {
         ClockReply::Off => tail.word(b"off"),
-        ClockReply::On { reading, clock } => {
+        // Mostly the clamp leaves the reading as it is.
+        ClockReply::On { reading, clock } => if reading == clock {
+            tail.number_twice(clock);
+        } else {
             tail.number(clock);
             tail.number(reading);
-        }
+        },
     }
     tail.word(b"clock");
     tail.digits(line);
