@@ -1,5 +1,5 @@
 //! One access to a board that C holds.
-ghost use Rattle.std.specs.Prelude.{◌≡◌, ◌&&◌, true, false};
+ghost use Rattle.std.specs.Prelude.{◌≡◌, ◌&&◌, true, false, None};
 ghost use Rattle.board_core.specs.Lazy.{is_passive, caught_up, IsLazy, IsCounted};
 ghost use Rattle.board_core.specs.Time.{now_of};
 ghost use Rattle.clockboard_c.specs.Kept.{seen};
@@ -30,9 +30,35 @@ use pit_readback::is_pit_port;
 pub(crate) fn call(board: &mut Board, cpu: u8, host: u64, access: Access, reply: &mut ReplyWords)
     ensures { IsCalled board.old board.new reply.old reply.new cpu host access }
 {
+    // No code refuses an access that is only counted: it needs no other test, and no place for the access in memory.
+    if is_counted(board, cpu, host, access) {
+        count(board, cpu, host, access, reply);
+    } else {
+        refuse_or_run(board, cpu, host, access, reply);
+    }
+}
+
+/// A passive access is only counted where nothing comes before it that could be seen.
+#[inline(always)]
+fn is_counted(board: &Board, cpu: u8, host: u64, access: Access) -> bool
+    ensures code { result ≡ true → early_code (seen board.now) cpu access ≡ None }
+    ensures passive { result ≡ true → is_passive access ≡ true }
+    ensures counted { result ≡ true → IsCounted board.now.state board.now.lag host }
+{
+    if board.seal != SEAL || cpu >= board.state.cpus() {
+        return false;
+    }
+    is_passive(access) && board.state.counts(&board.lag, host)
+}
+
+/// The answer to an access that isn't.
+#[inline(always)]
+fn refuse_or_run(board: &mut Board, cpu: u8, host: u64, access: Access, reply: &mut ReplyWords)
+    ensures { IsCalled board.old board.new reply.old reply.new cpu host access }
+{
     match early_code(board, cpu, access) {
         Some(code) => reply.refuse(code),
-        None => answer(board, cpu, host, access, reply),
+        None => run(board, cpu, host, access, reply),
     }
 }
 
@@ -49,7 +75,7 @@ pub(crate) fn shared_call(
 {
     match shared_code(board, cpu, access) {
         Some(code) => reply.refuse(code),
-        None => answer(board, cpu, host, access, reply),
+        None => run(board, cpu, host, access, reply),
     }
 }
 
@@ -103,19 +129,6 @@ fn access_code(state: &BoardState, cpu: u8, access: Access) -> Option<u32>
         return Some(NOT_OURS);
     }
     None
-}
-
-/// The board's answer. A passive access is only counted where nothing comes before it that could be seen.
-#[inline(always)]
-fn answer(board: &mut Board, cpu: u8, host: u64, access: Access, reply: &mut ReplyWords)
-    requires { IsTaken (seen board.old).state cpu access }
-    ensures { HasAnswered board.old board.new reply.old reply.new cpu host access }
-{
-    if is_passive(access) && board.state.counts(&board.lag, host) {
-        count(board, cpu, host, access, reply);
-    } else {
-        run(board, cpu, host, access, reply);
-    }
 }
 
 /// The answer to an access that is only counted. A count that isn't beyond the greatest moves no time.
