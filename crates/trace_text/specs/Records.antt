@@ -10,7 +10,6 @@ use Rattle.std.specs.Prelude.{
   ◌∷◌,
   Option,
   Some,
-  None,
   Result,
   Ok,
   Err,
