@@ -131,6 +131,7 @@ LIBRARY: dict[str, object] = {
     "list_any": lambda f, xs: any(map(f, xs)), "list_all": lambda f, xs: all(map(f, xs)),
     "take": lambda n, xs: xs[:n], "drop": lambda n, xs: xs[n:], "replicate": lambda n, x: [x] * n,
     "zip": lambda xs, ys: list(zip(xs, ys)),
+    "items_where_true": lambda bs, xs: [x for b, x in zip(bs, xs) if b],
     "slice_index": lambda xs, k: xs[k] if k < len(xs) else 0,
     "slice_index_or": lambda xs, k, other: xs[k] if k < len(xs) else other,
     "get_or": lambda xs, k, other: xs[k] if k < len(xs) else other, "tt": (),
