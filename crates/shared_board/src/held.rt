@@ -32,24 +32,24 @@ ghost use Rattle.shared_board.specs.private.Seats.{
   HasRefused,
 };
 
+use crate::lazy::LazyBox;
 use crate::pass::Pass;
 use crate::pens::{publish, take_pen};
-use board_core::{BoardState, Refusal, Reply};
-use board_history::{page_published, read_entry, table_page};
-use clk_units::NoMemory;
+use board_core::{Refusal, Reply};
+use board_history::{page_published, read_entry};
 use clock_table::{Asked, Call, ClockSeat, ClockTable, Name, SeatPlace};
 use pvclock_page::Page;
-use std::alloc::Global;
 use std::marker::Model;
 
 /// A front word so great leaves no room for a read under the lock.
 const FULL: u64 = 1 << 63;
 
 /// What lies under the lock. The board is the one after all that the writer's seat has seen, but for its greatest
-/// reading, which is in the clamp word. It lies in a box, so that no move of what is shared moves it.
+/// reading, which is in the clamp word. It lies in a box, so that no move of what is shared moves it, and its devices may
+/// lag there.
 #[derive(Drop)]
 pub struct Held<N: Name> {
-    pub(crate) board: Box<BoardState>,
+    pub(crate) board: LazyBox,
     pub(crate) writer: SeatPlace<N>,
 }
 
@@ -62,7 +62,7 @@ impl<N: Name> Model for Held<N> {
 
     ghost view = { λ s. s.writer };
 
-    ghost invariant = { λ s. IsHeld N.state N.passes s.board.value s.writer };
+    ghost invariant = { λ s. IsHeld N.state N.passes s.board s.writer };
 }
 
 impl<N: Name> Held<N> {
@@ -85,7 +85,7 @@ impl<N: Name> Held<N> {
             pass: pass.number,
             asked,
         };
-        let result = act(table, &mut *self.board, &mut pass.seat, call, reply);
+        let result = act(table, &mut self.board, &mut pass.seat, call, reply);
         self.writer = SeatPlace::new(table.split_pen(&mut pass.seat));
         result
     }
@@ -114,20 +114,9 @@ impl<N: Name> Held<N> {
             index,
             h,
         };
-        let result = read(table, &*self.board, &mut pass.seat, look, front);
+        let result = read(table, &self.board, &mut pass.seat, look, front);
         self.writer = SeatPlace::new(table.split_pen(&mut pass.seat));
         result
-    }
-}
-
-/// A copy of a board, in a box of its own.
-#[inline(never)]
-pub(crate) fn boxed(alloc: Global, state: &BoardState) -> Result<Box<BoardState>, NoMemory>
-    ensures { IfOk result (λ b. b.value ≡ state.now) }
-{
-    match Box::new(alloc, *state) {
-        Ok(board) => Ok(board),
-        Err(_full) => Err(NoMemory),
     }
 }
 
@@ -142,7 +131,7 @@ struct Look {
 /// A read of a page, whose entry the seat makes that holds the pen.
 fn read<N: Name>(
     table: &ClockTable<N>,
-    board: &BoardState,
+    board: &LazyBox,
     seat: &mut ClockSeat<N>,
     look: Look,
     front: u64,
@@ -161,7 +150,7 @@ fn read<N: Name>(
     if front >= FULL {
         return Err(front);
     }
-    let page = table_page(board, look.index);
+    let page = board.table_page(look.index);
     let entry = read_entry(board.cpus(), look.pass, look.index, look.h, &page, true);
     table.bump_read(seat, &entry);
     Ok(page)
@@ -172,7 +161,7 @@ fn read<N: Name>(
 #[inline(always)]
 pub(crate) fn act<N: Name>(
     table: &ClockTable<N>,
-    board: &mut BoardState,
+    board: &mut LazyBox,
     seat: &mut ClockSeat<N>,
     call: Call,
     reply: &mut Reply,
@@ -188,7 +177,7 @@ pub(crate) fn act<N: Name>(
     ensures machine { machine_of board.new ≡ machine_of board.old }
     ensures unchanged { OnErr result (reply.new ≡ reply.old) }
 {
-    match board.answer(call.asked.cpu, call.asked.h, call.asked.access, reply) {
+    match board.answer(call.asked, reply) {
         Ok(()) => {
             make(table, board, seat, call, reply);
             Ok(())
@@ -201,7 +190,7 @@ pub(crate) fn act<N: Name>(
 #[inline(always)]
 fn make<N: Name>(
     table: &ClockTable<N>,
-    board: &BoardState,
+    board: &LazyBox,
     seat: &mut ClockSeat<N>,
     call: Call,
     reply: &Reply,

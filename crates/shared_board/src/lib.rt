@@ -21,6 +21,7 @@ mod held;
 mod holding;
 mod host;
 mod known;
+mod lazy;
 mod pass;
 mod pens;
 mod shared;

@@ -7,8 +7,8 @@ ghost use Rattle.clock_table.specs.Steps.{Extends, loud};
 ghost use Rattle.clock_table.specs.Calls.{IsPen, IsNext, IsPublishing, entry_of};
 ghost use Rattle.shared_board.specs.private.Seats.{IsWriter, PenMoved};
 
-use board_core::{BoardState, Reply};
-use board_history::table_page;
+use crate::lazy::LazyBox;
+use board_core::Reply;
 use clock_table::{Call, ClockSeat, ClockTable, Field, Name};
 use pvclock_page::page_words;
 
@@ -33,7 +33,7 @@ pub(crate) fn take_pen<N: Name>(
 #[inline(never)]
 pub(crate) fn publish<N: Name>(
     table: &ClockTable<N>,
-    board: &BoardState,
+    board: &LazyBox,
     seat: &mut ClockSeat<N>,
     index: u8,
     call: &Call,
@@ -50,7 +50,7 @@ pub(crate) fn publish<N: Name>(
     requires next { IsNext (entry_of call.now reply.now) seat.old }
     ensures { Extends (entry_of call.now reply.now) seat.old seat.new }
 {
-    let [_, stamp, system, scale, offset] = page_words(&table_page(board, index));
+    let [_, stamp, system, scale, offset] = page_words(&board.table_page(index));
     table.begin(seat, index);
     table.put(seat, index, Field::Stamp, stamp);
     table.put(seat, index, Field::System, system);

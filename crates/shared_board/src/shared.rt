@@ -22,9 +22,10 @@ ghost use Rattle.shared_board.specs.private.Seats.{IsLastRead, HasClamped};
 ghost use Rattle.shared_board.specs.private.Tables.{HasTriedTable, HasLockedTable, HasReadTable};
 
 use crate::fault::{LockedFault, PageFault};
-use crate::held::{Held, boxed};
+use crate::held::Held;
 use crate::holding::Holding;
 use crate::host::HostClock;
+use crate::lazy::LazyBox;
 use crate::pass::Pass;
 use crate::stop::{join_all, new_passes};
 use crate::tries::try_table_on;
@@ -109,7 +110,7 @@ impl<N: Name> SharedBoard<N> {
         let board = SharedBoard {
             table,
             held: CachePadded::new(Mutex::new(CachePadded::new(Held {
-                board: boxed(alloc, state)?,
+                board: LazyBox::new(alloc, state)?,
                 writer: SeatPlace::new(seat),
             }))),
             waiters: CachePadded::new(Waiters::new()),
@@ -447,13 +448,11 @@ impl<N: Name> SharedBoard<N> {
             });
         }
         let SharedBoard { table, held, .. } = self;
-        let Held {
-            mut board,
-            mut writer,
-        } = held.into_inner().into_inner().into_inner();
+        let Held { board, mut writer } = held.into_inner().into_inner().into_inner();
         let seat = join_all(&table, writer.take(), passes);
         let closed = table.close(seat);
-        board.set_greatest(closed.greatest);
-        Ok(Stopped { state: board })
+        let mut state = board.into_board();
+        state.set_greatest(closed.greatest);
+        Ok(Stopped { state })
     }
 }

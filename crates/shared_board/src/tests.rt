@@ -4,6 +4,7 @@ ghost use Rattle.clk_units.specs.Ranges.{IsKhz};
 ghost use Rattle.board_types.specs.Legal.{is_legal};
 ghost use Rattle.board_history.specs.Machine.{page_at};
 
+mod lag;
 mod many;
 mod words;
 

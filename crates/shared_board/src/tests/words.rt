@@ -6,6 +6,7 @@ ghost use Rattle.board_history.specs.Machine.{page_at};
 use super::*;
 use crate::held::act;
 use crate::host::HostClock;
+use crate::lazy::LazyBox;
 use crate::tries::try_table_on;
 use clock_table::{Asked, Call, ClockTable, Field};
 
@@ -44,13 +45,14 @@ fn tried_while_open<N: Name, R: Abort>(rt: &R, blank: Blank, state: BoardState) 
 fn a_read_that_spans_a_whole_update_is_none(rt: HostRuntime) -> Result<(), Fail> {
     let state = board();
     let blank = blank(rt.alloc(), &state)?;
-    read_round_an_update::<Brand, _>(&rt, blank, state)
+    read_round_an_update::<Brand, _>(&rt, rt.alloc(), blank, state)
 }
 
 fn read_round_an_update<N: Name, R: Abort>(
     rt: &R,
+    alloc: Global,
     blank: Blank,
-    mut state: BoardState,
+    state: BoardState,
 ) -> Result<(), Fail>
     requires table { blank.0 ≡ N.table }
     requires blank { blank.1 ≡ N.state }
@@ -81,7 +83,10 @@ fn read_round_an_update<N: Name, R: Abort>(
         },
     };
     let mut reply = Reply::empty();
-    let taken = act(&table, &mut state, &mut one, call, &mut reply).is_ok();
+    let Ok(mut board) = LazyBox::new(alloc, &state) else {
+        return Err("no memory".into());
+    };
+    let taken = act(&table, &mut board, &mut one, call, &mut reply).is_ok();
     let second = table.second(&mut two, 0, 900);
     assert!(rt; taken);
     assert_eq!(rt; (first, second), (0, 2));

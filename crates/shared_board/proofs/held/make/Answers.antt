@@ -15,7 +15,7 @@ use Rattle.shared_board.proofs.held.make.Goals.{In-Some}
 
 published : (g : given.Over) (c : In-Some g)
     → page_published c.args.board.now.cpus c.args.call.asked.cpu c.args.call.asked.access ≡ Some c.in-Some.index
-published g c = ap (λ (n : ℕ). page_published n c.args.call.asked.cpu c.args.call.asked.access) (sym c.cpus.ensures.value)
+published g c = ap (λ (n : ℕ). page_published n c.args.call.asked.cpu c.args.call.asked.access) (sym c.cpus.ensures)
     ∙ (sym c.page_published.ensures ∙ c.in-Some.is)
 
 -- the page is there

@@ -1,13 +1,12 @@
-use Rattle.std.proofs.Common.{ap, sym, ◌∙◌, ◌≡◌, ◌≤◌, ◌∷◌, [], subst, IfOk, IfErr, true}
-use Rattle.board_types.specs.declared.parts.BoardParts.{BoardParts}
-use Rattle.board_history.specs.History.{board_after, read_of, version_after}
+use Rattle.std.proofs.Common.{ap, ◌∙◌, ◌≡◌, ◌≤◌, ◌∷◌, [], subst, IfOk, IfErr, true}
+use Rattle.board_history.specs.History.{read_of, version_after}
 use Rattle.clock_table.specs.declared.view.View.{View}
 use Rattle.clock_table.specs.Steps.{pen_right}
 use Rattle.shared_board.specs.declared.known.PassKnown.{PassKnown}
 use Rattle.shared_board.specs.Passes.{Answered, Unanswered}
 use Rattle.shared_board.specs.Pages.{HadRoom}
 use Rattle.shared_board.specs.Faults.{IsFull}
-use Rattle.shared_board.specs.private.Seats.{AreAlike, known}
+use Rattle.shared_board.specs.private.Seats.{known}
 use Rattle.shared_board.proofs.Turns.{taken, HasPen, HasTurned, pen_taken, read_turned, read_answered, read_room, read_spent}
 use Rattle.shared_board.proofs.Tables.{read_least}
 use Rattle.shared_board.proofs.held.Held.page.Given as given
@@ -19,28 +18,26 @@ take-requires g c = (c.self.invariant.0, c.self.invariant.1)
 
 pub take_pen-front-requires-clause-writer : goal.take_pen-front-requires-clause-writer
 take_pen-front-requires-clause-writer g c =
-    (taken g.N.Name.state g.N.Name.passes c.self.inside.board.value c.self.inside.writer c.take.result c.self.invariant c.take.ensures.seat).writer
+    (taken g.N.Name.state g.N.Name.passes c.self.inside.board c.self.inside.writer c.take.result c.self.invariant c.take.ensures.seat).writer
 
 -- the pass has the pen
 has : (g : given.Over) (c : After-take_pen-front g)
-    → HasPen g.N.Name.state g.N.Name.passes c.pass.inside.number c.self.inside.board.value c.take_pen-front.new.seat
-has g c = pen_taken g.N.Name.state g.N.Name.passes c.pass.inside.number c.self.inside.board.value c.self.inside.writer c.pass.inside.seat c.take.result
+    → HasPen g.N.Name.state g.N.Name.passes c.pass.inside.number c.self.inside.board c.take_pen-front.new.seat
+has g c = pen_taken g.N.Name.state g.N.Name.passes c.pass.inside.number c.self.inside.board c.self.inside.writer c.pass.inside.seat c.take.result
     c.take_pen-front.new.seat c.self.invariant c.take.ensures.seat c.pass.invariant.0 c.pass.invariant.1 c.take_pen-front.ensures.moved
 
 pub read-result-requires-clause-alike : goal.read-result-requires-clause-alike
-read-result-requires-clause-alike g c =
-    subst (λ (b : BoardParts). AreAlike b (board_after c.take_pen-front.new.seat.seen)) (sym c.deref.ensures)
-    (has g (goal.at.read-result-requires-clause-alike g c).After-take_pen-front).alike
+read-result-requires-clause-alike g c = (has g (goal.at.read-result-requires-clause-alike g c).After-take_pen-front).alike
 
 pub read-result-requires-clause-pen : goal.read-result-requires-clause-pen
 read-result-requires-clause-pen g c = (has g (goal.at.read-result-requires-clause-pen g c).After-take_pen-front).pen
 
 -- after the turn
 turned : (g : given.Over) (c : After-new g)
-    → HasPen g.N.Name.state g.N.Name.passes c.pass.inside.number c.self.inside.board.value c.take_pen-front.new.seat
-    → HasTurned g.N.Name.state g.N.Name.passes c.pass.inside.number c.self.inside.board.value c.read-result.new.seat
+    → HasPen g.N.Name.state g.N.Name.passes c.pass.inside.number c.self.inside.board c.take_pen-front.new.seat
+    → HasTurned g.N.Name.state g.N.Name.passes c.pass.inside.number c.self.inside.board c.read-result.new.seat
 turned g c pen = read_turned c.read-result.result g.N.Name.state.cpus g.N.Name.state g.N.Name.passes c.pass.inside.number c.args.index c.args.h
-    c.self.inside.board.value c.take_pen-front.new.seat c.read-result.new.seat pen c.read-result.ensures.ok c.read-result.ensures.spent
+    c.self.inside.board c.take_pen-front.new.seat c.read-result.new.seat pen c.read-result.ensures.ok c.read-result.ensures.spent
 
 pub invariant_of-self : goal.invariant_of-self
 invariant_of-self g c =
