@@ -65,7 +65,9 @@ def arity_of(function: Callable) -> int:
 
 
 def applied(function: Callable, *given: object) -> object:
-    """A function of its values, which may be fewer or more than it takes at once."""
+    """A function of its values, which may be fewer or more than it takes at once; or a variant with its values."""
+    if isinstance(function, tuple):
+        return (*function, *given)
     while given:
         takes = arity_of(function)
         if len(given) < takes:

@@ -4,7 +4,6 @@ use Rattle.std.specs.Prelude.{
   ◌/◌,
   ◌%◌,
   ◌^◌,
-  ◌==◌,
   nat_lt,
   List,
   ◌++◌,
@@ -14,6 +13,7 @@ use Rattle.std.specs.Prelude.{
   if◌then◌else◌,
 }
 use Rattle.std.specs.List.{flat_map}
+use Rattle.irq_edges.specs.Lines.{is_line}
 use Rattle.irq_edges.specs.declared.bursts.Burst.{Burst}
 use Rattle.irq_edges.specs.declared.edges.Edge.{Edge}
 use Rattle.edge_hooks.specs.Messages.{message_of}
@@ -21,6 +21,7 @@ use Rattle.edge_hooks.specs.declared.deliveries.Delivery.{Delivery}
 use Rattle.edge_hooks.specs.declared.messages.Message.{Message}
 use Rattle.edge_hooks.specs.declared.sent.Sent.{Sent}
 use Rattle.reply_text.specs.Text.{edge_text, msg_text, value_text, page_text, clock_text, hv_text}
+use Rattle.trace_text.specs.Header.{place_of_line}
 use Rattle.race_phase.specs.declared.deliveries.Deliveries.{Deliveries}
 use Rattle.race_phase.specs.declared.records.Answer.{Answer}
 use Rattle.race_phase.specs.declared.records.Answer.TheVariants.{Acted, PageIs, ClockIs, HvIs}
@@ -28,13 +29,7 @@ use Rattle.race_phase.specs.declared.records.Answer.TheVariants.{Acted, PageIs, 
 -- who gets a rise of the line of this number
 abbrev pub delivery_to : Deliveries → ℕ → Option Delivery
 delivery_to ds line =
-    if line == 0 then slice_index_or ds.lines 0 None
-    else if line == 8 then slice_index_or ds.lines 1 None
-    else if line == 20 then slice_index_or ds.lines 2 None
-    else if line == 21 then slice_index_or ds.lines 3 None
-    else if line == 22 then slice_index_or ds.lines 4 None
-    else if line == 23 then slice_index_or ds.lines 5 None
-    else None
+    if is_line line then slice_index_or ds.lines (place_of_line line) None else None
 
 -- a rise alone is delivered
 abbrev pub delivery_of : Deliveries → Edge → Option Delivery

@@ -72,8 +72,7 @@ CallMade s n cpu h ReadHv (HvIs reply) es =
 CallMade s n cpu h _ _ es = ⊥
 
 -- the entries of these records in order, and the text of their blocks
-abbrev pub AllMade :
-    BoardParts → Deliveries → ℕ → List Record → List ℕ → List Entry → Type 0
+abbrev pub AllMade : BoardParts → Deliveries → ℕ → List Record → List ℕ → List Entry → Type 0
 AllMade s ds n [] out es = (out ≡ []) × (es ≡ [])
 AllMade s ds n (r ∷ rs) out es =
     (a : Answer) × (more : List ℕ) × (first : List Entry) × (rest : List Entry)
@@ -96,8 +95,7 @@ IsTried cpus h n =
     × All (λ (m : Miss). IsUpdate m.first m.second × (m.second ≤ version_after h m.page)) ms
 
 -- the text of k processors from n on, one after another
-abbrev pub Shown :
-    BoardParts → Deliveries → List Record → List Entry → ℕ → ℕ → List ℕ → Type 0
+abbrev pub Shown : BoardParts → Deliveries → List Record → List Entry → ℕ → ℕ → List ℕ → Type 0
 Shown s ds rs h n zero out = out ≡ []
 Shown s ds rs h n (suc k) out =
     (first : List ℕ) × (rest : List ℕ) × (out ≡ first ++ rest)

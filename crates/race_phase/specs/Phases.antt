@@ -42,8 +42,7 @@ pub record IsPhase (cpus format : ℕ) (v : Phase) : Type 0 where
 abbrev pub next_board : End → BoardParts → BoardParts
 next_board Finish b = b
 next_board (Save line cpu h) b = after_access b cpu h Step
-next_board (Move line cpu h host) b =
-    moved_to host.khz host.start host.gap (after_access b cpu h Step)
+next_board (Move line cpu h host) b = moved_to host.khz host.start host.gap (after_access b cpu h Step)
 
 -- the end of a phase with its line: its access is refused, or then its move
 abbrev pub end_fault : BoardParts → End → Option Fault
@@ -60,9 +59,7 @@ after_phase b v = next_board v.end (after_records b v.records)
 
 -- .. of a phase: that of its records, or else of its end
 abbrev pub phase_fault : BoardParts → Phase → Option Fault
-phase_fault b v =
-    option_or (records_fault b v.records)
-    (end_fault (after_records b v.records) v.end)
+phase_fault b v = option_or (records_fault b v.records) (end_fault (after_records b v.records) v.end)
 
 -- .. of phases, one after another
 abbrev pub trace_fault : BoardParts → List Phase → Option Fault
@@ -93,8 +90,7 @@ move_block ds line host reply b =
 -- what the end of a phase prints
 abbrev pub end_text : Deliveries → End → BoardParts → List ℕ
 end_text ds Finish b = []
-end_text ds (Save line cpu h) b =
-    save_block ds line (reply_of b cpu h Step) (after_access b cpu h Step)
+end_text ds (Save line cpu h) b = save_block ds line (reply_of b cpu h Step) (after_access b cpu h Step)
 end_text ds (Move line cpu h host) b =
     move_block ds line host (reply_of b cpu h Step) (after_access b cpu h Step)
 
@@ -114,8 +110,7 @@ pub record PhaseEnded (opening : BoardParts) (ds : Deliveries) (v : Phase)
 
 -- the text of these phases from a state on, and the state that they leave. Each phase opens with
 -- the board that the one before it left
-abbrev pub race_text :
-    Deliveries → BoardParts → List Phase → BoardParts → List ℕ → Type 0
+abbrev pub race_text : Deliveries → BoardParts → List Phase → BoardParts → List ℕ → Type 0
 race_text ds s [] state out = (state ≡ s) × (out ≡ [])
 race_text ds s (v ∷ vs) state out =
     (next : BoardParts) × (first : List ℕ) × (rest : List ℕ) × (out ≡ first ++ rest)

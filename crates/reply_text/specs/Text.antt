@@ -3,7 +3,6 @@ use Rattle.std.specs.Prelude.{
   ℕ,
   ◌*◌,
   min,
-  Bool,
   List,
   [],
   ◌∷◌,
@@ -51,15 +50,11 @@ use Rattle.reply_text.specs.declared.ends.Reason.TheVariants.{
 use Rattle.reply_text.specs.declared.ends.Refused.{Refused}
 use Rattle.reply_text.specs.declared.ends.Refused.TheVariants.{Invalid, Range, Versions, Spent}
 
--- a direction
-abbrev pub direction : Bool → List ℕ
-direction up = if up then codes "up" else codes "down"
-
 -- `edge AT LINE up`, `edge AT LINE down`, and with a delivery `edge AT LINE up CPU VV`
 unfoldable pub edge_text : Edge → Option Delivery → List ℕ
 edge_text e to =
     line_of (codes "edge")
-    (decimal e.at ∷ decimal e.line ∷ direction e.up
+    (decimal e.at ∷ decimal e.line ∷ (if e.up then codes "up" else codes "down")
     ∷ option_map_or (λ d. decimal d.cpu ∷ hex_text 2 d.vector ∷ []) to [])
 
 -- `msg FIRST TIMER CPU VV COUNT EVERY`: the messages of a timer, and who gets each of them

@@ -89,7 +89,7 @@ pub(crate) fn write_byte(byte: u8, buf: &mut [u8], end: usize) -> usize
     start
 }
 
-/// Writes the bytes from `start` to `end` once more, so that they end at `start`, and returns where they start. What stands
+/// Writes the bytes from `start` to `end` once more, so that they end at `start`, and returns where they start. What is
 /// before them is lost.
 #[inline(always)]
 pub(crate) fn write_again(buf: &mut [u8], start: usize, end: usize) -> usize

@@ -51,7 +51,8 @@ first_of_mask rest m k long same set below =
     let an_end : is_byte 10 (get_or front k 0) ≡ true = is_set (is_byte 10 (get_or front k 0)) (sym (bit k) ∙ set) in
     let inside : k < 32 = elim (cases_lt k 32) [
       | inl less ↦ less
-      | inr past ↦ absurd (let none = ap (is_byte 10) (get_or_past front k 0 (omega (arith, past, length-take-le 32 rest long))) in let no : false ≡ true = sym none ∙ an_end in cc)
+      | inr past ↦ absurd (let none = ap (is_byte 10) (get_or_past front k 0 (omega (arith, past, length-take-le 32 rest long)))
+          in let no : false ≡ true = sym none ∙ an_end in cc)
     ] in
     let before : (i : ℕ) → 0 ≤ i → i < k → Passes (is_byte 10) rest i → ⊥ = λ i low less passes.
     is_clear (is_byte 10 (get_or front i 0)) (sym (bit i) ∙ below i less) (ap (is_byte 10) (get_or-take 32 rest i 0 (omega arith)) ∙ passes) in (

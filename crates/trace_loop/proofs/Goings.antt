@@ -1,5 +1,6 @@
 -- A run over lines goes on, or is over, by what its last step did.
-use Rattle.std.proofs.Common.{◌≡◌, ◌≢◌, ℕ, ◌+◌, ◌-◌, ◌<◌, ◌≤◌, false, List, [], ◌++◌, length, take, Option, Some, None, refl, sym, ap, ◌∙◌, inl, inr, ◌⊎◌, arith, subst, append-nil}
+use Rattle.std.proofs.Common.{◌≡◌, ◌≢◌, ℕ, ◌+◌, ◌-◌, ◌<◌, ◌≤◌, false, List, [], ◌++◌, length, take}
+use Rattle.std.proofs.Common.{Option, Some, None, refl, sym, ap, ◌∙◌, inl, inr, ◌⊎◌, arith, subst, append-nil}
 use Rattle.std.specs.Io.KnownBytes.{Appends}
 use Rattle.std.proofs.KnownBytes.{Appends-trans}
 use Rattle.board_io.specs.Faults.{Rose}
@@ -100,7 +101,8 @@ module _ (A E : Type 0) (answer : ℕ → A → List ℕ → Answer A E) (closin
         (λ input e asked.
         let m = k.told input e in
         let at = stands_at A E answer closing a input feed.lines.left m.0 m.1 feed.out.items _ _ (feed.lines.number + 1) feed.lines.text state m.4 in
-        out_memory A E answer closing a input (source_of start) (source_of ends) result m.1 last feed.out.items (length m.4.bytes) start.contents ends.contents c _
+        out_memory A E answer closing a input (source_of start) (source_of ends) result m.1 last feed.out.items
+        (length m.4.bytes) start.contents ends.contents c _
         (ap (λ (u : Progress A E). u.printed) at) (ap (λ (u : Progress A E). u.end) at) (omega (arith, m.4.count)) is k.source_faults asked m.3 said)
         (said-source statuses.NoMemory result ends.contents c last (Rose ends.sink_faults f) (λ is. cc) said)
         (said-sink statuses.NoMemory result ends.contents c last (Rose ends.sink_faults f) (λ is. cc) said) kept
@@ -114,7 +116,8 @@ module _ (A E : Type 0) (answer : ℕ → A → List ℕ → Answer A E) (closin
         (λ input e asked.
         let m = k.told input e in
         let starts = stands_starts A E answer closing a input feed.lines.left m.0 m.1 feed.out.items _ _ (feed.lines.number + 1) feed.lines.text state m.4 in
-        out_sink A E answer closing a input (source_of start) (source_of ends) m.1 feed.out.items starts.0 _ start.contents ends.contents c starts.1 k.source_faults asked m.3 cut)
+        out_sink A E answer closing a input (source_of start) (source_of ends) m.1 feed.out.items starts.0 _ start.contents
+        ends.contents c starts.1 k.source_faults asked m.3 cut)
         (λ is. cc) (λ is. rose) (λ other. absurd (other refl))
 
     -- all was put, and then the source was called
@@ -147,7 +150,8 @@ module _ (A E : Type 0) (answer : ℕ → A → List ℕ → Answer A E) (closin
       over_called : (result : Ended E) → ((input : List ℕ) → start.remaining ≡ Some input
           → Outcome (run_over answer closing a input (source_of start) (source_of now)) result start.contents now.contents)
           → (ends.done ≡ false → ends.late ≡ false → now.late ≡ false)
-          → (result ≢ statuses.SourceFault → result ≢ statuses.SinkFault → now.faults ≡ start.faults) → (result ≡ statuses.SourceFault → Rose start.faults now.faults)
+          → (result ≢ statuses.SourceFault → result ≢ statuses.SinkFault → now.faults ≡ start.faults)
+          → (result ≡ statuses.SourceFault → Rose start.faults now.faults)
           → (result ≡ statuses.SinkFault → Rose f now.sink_faults) → (result ≢ statuses.SinkFault → now.sink_faults ≡ f)
           → IsOver A E answer closing a start now result
       over_called result outcome quiet well source rose kept = record {
@@ -198,14 +202,16 @@ module _ (A E : Type 0) (answer : ℕ → A → List ℕ → Answer A E) (closin
             | inl whole ↦ over_called result
                 (λ input e.
                 let m = k.told input e in
-                out_ended A E answer closing a input (source_of start) (source_of now) r.end result _ r.text (ends.given - start.given) start.contents c now.contents _
+                out_ended A E answer closing a input (source_of start) (source_of now) r.end result _ r.text
+                (ends.given - start.given) start.contents c now.contents _
                 (stands_end A E answer closing a input m.0 m.1 feed.out.items _ _ (feed.lines.number + 1) new.text state (number + 1) text (stands input e)
                 (none m.0 m.2) (ap (λ (n : ℕ). n + 1) (el ∙ l.number)) et) faults (is_asked input e) (shown input e) whole)
                 quiet (λ x y. faults)
                 (λ is. absurd (said-source (statuses.By r.end) result c now.contents r.text (Rose f now.sink_faults) (λ is'. cc) whole is))
                 (said-sink (statuses.By r.end) result c now.contents r.text (Rose f now.sink_faults) (λ is. cc) whole) kept
             | inr front ↦ over_called result
-                (λ input e. out_memory A E answer closing a input (source_of start) (source_of now) result _ memory_fault_text [] (ends.given - start.given) start.contents c now.contents _
+                (λ input e. out_memory A E answer closing a input (source_of start) (source_of now) result _ memory_fault_text
+                [] (ends.given - start.given) start.contents c now.contents _
                 (ap (λ (u : Progress A E). u.printed) (there input e) ∙ sym (append-nil ((k.told input e).1 ++ feed.out.items)))
                 (ap (λ (u : Progress A E). u.end) (there input e)) (omega (arith, given)) refl faults (is_asked input e) (shown input e) front)
                 quiet (λ x y. faults)

@@ -371,7 +371,8 @@ module _ (A E : Type 0) (answer : ℕ → A → List ℕ → Answer A E) (closin
 
   -- memory ran out after some lines
   pub out_memory : (result : Ended E) (put last text : List ℕ) (place : ℕ) (c0 c1 c2 : Option (List ℕ)) (fault : Type 0)
-      → (after_bytes answer (take place input) (opened a)).printed ≡ put ++ text → (after_bytes answer (take place input) (opened a)).end ≡ None → place ≤ given_now
+      → (after_bytes answer (take place input) (opened a)).printed ≡ put ++ text
+      → (after_bytes answer (take place input) (opened a)).end ≡ None → place ≤ given_now
       → last ≡ text ++ memory_fault_text → now.faults ≡ start.faults
       → IsAsked A E answer a input put given_before place → Appends c0 c1 put
       → Said statuses.NoMemory result c1 c2 last fault → Outcome run_here result c0 c2

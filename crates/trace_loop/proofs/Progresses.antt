@@ -206,7 +206,8 @@ module _ (A E : Type 0) (answer : ℕ → A → List ℕ → Answer A E) (closin
       starts-trans s.printed t.printed (ran closing t.end t).text (closed-starts s) (ran-starts t.end t)
 
   -- what is printed after some bytes is at the front of what is printed for the whole
-  pub replay-starts : (xs ys : List ℕ) (s : Progress A E) → Starts (after_bytes answer xs s).printed (finished answer closing (after_bytes answer (xs ++ ys) s)).text
+  pub replay-starts : (xs ys : List ℕ) (s : Progress A E) → Starts (after_bytes answer xs s).printed
+      (finished answer closing (after_bytes answer (xs ++ ys) s)).text
   replay-starts xs ys s =
       let t : Progress A E = after_bytes answer xs s in
       subst (λ (u : Progress A E). Starts t.printed (finished answer closing u).text) (sym (after-++ xs ys s))

@@ -1,5 +1,6 @@
 -- What is true of each item that a reader may make of a line, and of the stage after it, is true of the item that was taken.
-use Rattle.std.proofs.Common.{◌≡◌, ℕ, ◌+◌, Bool, true, false, cond, ltb, codes, List, length, Option, Some, None, Result, Ok, Err, refl, subst}
+use Rattle.std.proofs.Common.{◌≡◌, ℕ, ◌+◌, Bool, true, false, cond, ltb, codes, List, length, Option, Some, None, is_some, if◌then◌else◌, Result, Ok, Err, refl, subst}
+use Rattle.std.specs.Option.{option_map_or}
 use Rattle.std.specs.Str.{bytes_eq}
 use Rattle.trace_text.specs.Tokens.{words_of}
 use Rattle.trace_text.specs.Header.{first_line, header_line, header_of, body_of}
@@ -16,8 +17,6 @@ use Rattle.trace_text.specs.Lines.{
   fault_of,
   answer_in,
   stage_after,
-  answer_by,
-  after_line_by,
   taken,
   after_line,
 }
@@ -80,7 +79,10 @@ module _ (P : Item → Stage → Type 0) where
   item_holds n (Err reason) item holds took = cc
 
   holds_by : (o : Option RecordFault) (line : List ℕ) (r : ReadingParts) (item : Item) → P Skipped r.stage → HoldsFrom r.stage
-      → answer_by o r line ≡ Ok item → ((after_line_by o line r).lines ≡ r.lines + 1) × P item (after_line_by o line r).stage
+      → option_map_or Err o (answer_in (r.lines + 1) (stepped r.stage line)) ≡ Ok item
+      → (let after : ReadingParts = if is_some o then r
+      else record { lines = r.lines + 1; stage = stage_after (r.lines + 1) (stepped r.stage line) } in
+      (after.lines ≡ r.lines + 1) × P item after.stage)
   holds_by None line r item skipped each took =
       (refl, item_holds (r.lines + 1) (stepped r.stage line) item (stepped_holds line r.stage skipped each) took)
   holds_by (Some fault) line r item skipped each took = let no : ⊥ = cc in absurd no

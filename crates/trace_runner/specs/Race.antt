@@ -33,8 +33,7 @@ RacePrints t text =
 
 -- what is left where the check came to its end: the line that was refused; or all that the trace
 -- prints, where memory did not run out
-abbrev pub CheckedLeaves : Checked → List ℕ → Status → Option (List ℕ) → Option (List ℕ) → Type 0
-    → Type 0
+abbrev pub CheckedLeaves : Checked → List ℕ → Status → Option (List ℕ) → Option (List ℕ) → Type 0 → Type 0
 CheckedLeaves (Stopped verdict) text status old new shown =
     (status ≡ verdict_status verdict) × Appends old new text
 CheckedLeaves (Whole trace) text status old new shown =
@@ -42,8 +41,7 @@ CheckedLeaves (Whole trace) text status old new shown =
     ⊎ Said NoMemory status old new memory_fault_text shown
 
 -- what a race leaves
-abbrev pub RaceLeaves : Run Checking Checked → Status → Option (List ℕ) → Option (List ℕ) → Type 0
-    → Type 0
+abbrev pub RaceLeaves : Run Checking Checked → Status → Option (List ℕ) → Option (List ℕ) → Type 0 → Type 0
 RaceLeaves w status old new shown =
     ((w.end.faults ≡ w.start.faults) × CheckedLeaves w.whole.end w.whole.text status old new shown)
     ⊎ Fails w status old new

@@ -80,8 +80,7 @@ refused_cause (ByCount fault) = refused_fault fault
 refused_cause (ByGap fault) = refused_move fault
 
 -- a save or a move, as it ends a phase: it is refused, or prints its block
-abbrev pub ended_answer : Option Fault → PhaseEnd → Deliveries → BoardParts
-    → Answer BoardParts Verdict
+abbrev pub ended_answer : Option Fault → PhaseEnd → Deliveries → BoardParts → Answer BoardParts Verdict
 ended_answer (Some fault) end ds b = Ends (stops fault.line (refused_cause fault.cause))
 ended_answer None end ds b = Goes (end_text ds end b) (next_board end b)
 
@@ -92,8 +91,7 @@ end_answer end ds b = ended_answer (end_fault b end) end ds b
 -- a record, by what it does: an access, which the board may refuse; a read, at a count that has a
 -- time; a save or a move. A read of a page changes nothing, and one of the clock may raise the greatest
 -- reading that was told
-abbrev pub job_answer : ℕ → ℕ → ℕ → Job → Deliveries → BoardParts
-    → Answer BoardParts Verdict
+abbrev pub job_answer : ℕ → ℕ → ℕ → Job → Deliveries → BoardParts → Answer BoardParts Verdict
 job_answer line cpu h (Ask (Act a)) ds b =
     answer_unless (option_map refused_access (refusal_of b cpu h a)) line
     (block_of ds line (Acted (reply_of b cpu h a))) (after_access b cpu h a)

@@ -13,8 +13,7 @@ abbrev pub Said : Status → Status → Option (List ℕ) → Option (List ℕ) 
 Said status result old new text shown = SaidOr SinkFault status result old new text shown
 
 -- the same, or memory ran out, and `fault memory` is the text
-abbrev pub SaidAtMost : Status → Status → Option (List ℕ) → Option (List ℕ) → List ℕ → Type 0
-    → Type 0
+abbrev pub SaidAtMost : Status → Status → Option (List ℕ) → Option (List ℕ) → List ℕ → Type 0 → Type 0
 SaidAtMost status result old new text shown =
     Said status result old new text shown
     ⊎ Said NoMemory result old new memory_fault_text shown

@@ -2,17 +2,15 @@
 ghost use Rattle.std.specs.Prelude.{
   ◌≡◌,
   ◌<◌,
-  ◌||◌,
   Some,
   None,
   is_some,
   unwrap_or,
 };
 ghost use Rattle.trace_runner.specs.Deliveries.{
-  there,
   any_route,
   by_default,
-  filled,
+  delivery_at,
   deliveries_of,
 };
 
@@ -23,39 +21,28 @@ use race_phase::Deliveries;
 /// The vector of line 0 where no route says another.
 const FIRST_VECTOR: u8 = 0x30;
 
-/// Whether the line at a place has a route.
-fn there(routes: &[Option<Delivery>; 6], place: usize) -> bool
-    requires { place < 6 }
-    ensures { result ≡ there place routes.now }
-{
-    routes[place].is_some()
-}
-
 /// Whether any line has a route.
 fn any_route(routes: &[Option<Delivery>; 6]) -> bool
     ensures { result ≡ any_route routes.now }
 {
-    there(routes, 0)
-        || there(routes, 1)
-        || there(routes, 2)
-        || there(routes, 3)
-        || there(routes, 4)
-        || there(routes, 5)
+    routes[0].is_some()
+        || routes[1].is_some()
+        || routes[2].is_some()
+        || routes[3].is_some()
+        || routes[4].is_some()
+        || routes[5].is_some()
 }
 
 /// Who gets the rises of the line at a place, where any line has a route.
-fn filled(any: bool, routes: &[Option<Delivery>; 6], place: usize) -> Option<Delivery>
+fn delivery_at(routes: &[Option<Delivery>; 6], place: usize) -> Delivery
     requires { place < 6 }
-    ensures { result ≡ filled any place routes.now }
+    ensures { result ≡ delivery_at routes.now place }
 {
-    if !any {
-        return None;
-    }
     let by_default = Delivery {
         cpu: 0,
         vector: FIRST_VECTOR + LINE_NUMBERS[place],
     };
-    Some(routes[place].unwrap_or(by_default))
+    routes[place].unwrap_or(by_default)
 }
 
 /// Who gets the rises of all lines, and the messages, where there are so many processors.
@@ -63,16 +50,21 @@ fn filled(any: bool, routes: &[Option<Delivery>; 6], place: usize) -> Option<Del
 pub(crate) fn deliveries_of(cpus: u8, routes: &[Option<Delivery>; 6]) -> Deliveries
     ensures { result ≡ deliveries_of cpus routes.now }
 {
-    let any = any_route(routes);
+    if !any_route(routes) {
+        return Deliveries {
+            cpus,
+            lines: [None; 6],
+        };
+    }
     Deliveries {
         cpus,
         lines: [
-            filled(any, routes, 0),
-            filled(any, routes, 1),
-            filled(any, routes, 2),
-            filled(any, routes, 3),
-            filled(any, routes, 4),
-            filled(any, routes, 5),
+            Some(delivery_at(routes, 0)),
+            Some(delivery_at(routes, 1)),
+            Some(delivery_at(routes, 2)),
+            Some(delivery_at(routes, 3)),
+            Some(delivery_at(routes, 4)),
+            Some(delivery_at(routes, 5)),
         ],
     }
 }

@@ -1,11 +1,11 @@
 -- The usual rows of the table of records, by the bytes that they begin with.
 use Rattle.std.proofs.Common.{◌≡◌, List, [], ℕ, ◌++◌, codes, Option, Some, None, IfSome, Result, Ok, sym, ◌∙◌, ap, refl}
-use Rattle.board_types.specs.declared.access.Access.TheVariants.{Step}
+use Rattle.board_types.specs.declared.access.Access.TheVariants.{Ack, Step}
 use Rattle.reply_text.specs.declared.ends.Reason.{Reason}
 use Rattle.trace_text.specs.Tokens.{words_of}
-use Rattle.trace_text.specs.Records.{job_of, in_row, out_row, clock_row, ack_row, hr_row}
+use Rattle.trace_text.specs.Records.{job_of, in_row, out_row, line_row, page_row, hr_row}
 use Rattle.trace_text.specs.declared.records.Body.{Body}
-use Rattle.trace_text.specs.declared.records.Call.TheVariants.{Act}
+use Rattle.trace_text.specs.declared.records.Call.TheVariants.{Act, ReadClock}
 use Rattle.trace_text.specs.declared.records.Job.{Job}
 use Rattle.trace_text.specs.declared.records.Job.TheVariants.{Ask}
 
@@ -17,11 +17,11 @@ pub out_first : (body : Body) (m : List ℕ) → job_of body (words_of (codes "o
 unfolding job_of words_of
 out_first body m = refl
 
-pub clock_first : (body : Body) (m : List ℕ) → job_of body (words_of (codes "clock " ++ m)) ≡ clock_row body (words_of m)
+pub clock_first : (body : Body) (m : List ℕ) → job_of body (words_of (codes "clock " ++ m)) ≡ page_row body ReadClock (words_of m)
 unfolding job_of words_of
 clock_first body m = refl
 
-pub ack_first : (body : Body) (m : List ℕ) → job_of body (words_of (codes "ack " ++ m)) ≡ ack_row body (words_of m)
+pub ack_first : (body : Body) (m : List ℕ) → job_of body (words_of (codes "ack " ++ m)) ≡ line_row body Ack (words_of m)
 unfolding job_of words_of
 ack_first body m = refl
 

@@ -14,6 +14,7 @@ use Rattle.std.specs.Prelude.{
   Option,
   Some,
   None,
+  is_some,
   unwrap_or,
   Result,
   Ok,
@@ -21,6 +22,7 @@ use Rattle.std.specs.Prelude.{
   if◌then◌else◌,
   codes,
 }
+use Rattle.std.specs.Option.{option_map_or}
 use Rattle.std.specs.Str.{bytes_eq}
 use Rattle.trace_loop.specs.Progress.{limit_of}
 use Rattle.trace_text.specs.Tokens.{words_of}
@@ -123,14 +125,9 @@ fault_of _ = None
 abbrev pub at_start : ReadingParts
 at_start = record { lines = 0; stage = Opening }
 
--- what `take_line` answers: the same fault again, or what the line is behind those before it
-abbrev pub answer_by : Option RecordFault → ReadingParts → List ℕ → Result Item RecordFault
-answer_by (Some fault) r line = Err fault
-answer_by None r line = answer_in (r.lines + 1) (stepped r.stage line)
-
--- the answer to the next line
+-- the answer to the next line: the same fault again, or what the line is after those before it
 abbrev pub taken : ReadingParts → List ℕ → Result Item RecordFault
-taken r line = answer_by (fault_of r.stage) r line
+taken r line = option_map_or Err (fault_of r.stage) (answer_in (r.lines + 1) (stepped r.stage line))
 
 -- the record that an item is, if it is one
 abbrev pub record_of_item : Item → Option Record
@@ -145,15 +142,11 @@ abbrev pub record_in : {E : Type 0} → Result Item E → Option Record
 record_in (Ok item) = record_of_item item
 record_in (Err e) = None
 
--- and the reader after it
-abbrev pub after_line_by : Option RecordFault → List ℕ → ReadingParts → ReadingParts
-after_line_by (Some fault) line r = r
-after_line_by None line r =
-    record { lines = r.lines + 1; stage = stage_after (r.lines + 1) (stepped r.stage line) }
-
--- the reader after the next line
+-- the reader after the next line: after a refusal it stays
 abbrev pub after_line : List ℕ → ReadingParts → ReadingParts
-after_line line r = after_line_by (fault_of r.stage) line r
+after_line line r =
+    if is_some (fault_of r.stage) then r
+    else record { lines = r.lines + 1; stage = stage_after (r.lines + 1) (stepped r.stage line) }
 
 -- what `at_end` answers
 abbrev pub end_fault : ReadingParts → RecordFault

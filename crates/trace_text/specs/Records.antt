@@ -123,12 +123,8 @@ abbrev pub wrmsr_row : Body → List (List ℕ) → Result Job Reason
 wrmsr_row body = place (hex_of_bits 32) (λ m. place hex (λ v. last (to_msr body m (MsrWrite m v))))
 
 -- `ack LINE`, `rose LINE`
-abbrev pub ack_row : Body → List (List ℕ) → Result Job Reason
-ack_row body = place (dec_of_bits 8) (λ line. last (board body (Ack line)))
-
--- `rose LINE`
-abbrev pub rose_row : Body → List (List ℕ) → Result Job Reason
-rose_row body = place (dec_of_bits 8) (λ line. last (board body (Rose line)))
+abbrev pub line_row : Body → (ℕ → Access) → List (List ℕ) → Result Job Reason
+line_row body access = place (dec_of_bits 8) (λ line. last (board body (access line)))
 
 -- the ticks of the timer of a local APIC
 abbrev pub apic_counts : Body → ℕ → Result Job Reason
@@ -145,21 +141,12 @@ abbrev pub page_at : Body → List (List ℕ) → Result ℕ Reason
 page_at body = place dec (λ p. last (if nat_lt p body.cpus then Ok p else Err Cpu))
 
 -- `refresh P`, `page P`, `clock P`
-abbrev pub refresh_row : Body → List (List ℕ) → Result Job Reason
-refresh_row body = place dec (λ p. last (on_cpu body p (Ask (Act (Refresh p)))))
-
--- `page P`
-abbrev pub page_row : Body → List (List ℕ) → Result Job Reason
-page_row body = place dec (λ p. last (on_cpu body p (Ask (ReadPage p))))
-
--- `clock P`
-abbrev pub clock_row : Body → List (List ℕ) → Result Job Reason
-clock_row body = place dec (λ p. last (on_cpu body p (Ask (ReadClock p))))
+abbrev pub page_row : Body → (ℕ → Call) → List (List ℕ) → Result Job Reason
+page_row body call = place dec (λ p. last (on_cpu body p (Ask (call p))))
 
 -- `move KHZ START GAP`
 abbrev pub move_row : Body → List (List ℕ) → Result Job Reason
-move_row body =
-    place khz (λ k. place dec (λ start. place dec (λ gap. last (Ok (Move k start gap)))))
+move_row body = place khz (λ k. place dec (λ start. place dec (λ gap. last (Ok (Move k start gap)))))
 
 -- the table of records; which formats have an access, the board says
 abbrev pub rows : Body → List (Row Job)
@@ -171,18 +158,18 @@ rows body =
     ∷ row (codes "hv") (last (from_format HV_FORMAT body (Ok (Ask ReadHv))))
     ∷ row (codes "rdmsr") (rdmsr_row body)
     ∷ row (codes "wrmsr") (wrmsr_row body)
-    ∷ row (codes "ack") (ack_row body)
+    ∷ row (codes "ack") (line_row body Ack)
     ∷ row (codes "eoi") (last (board body Eoi))
     ∷ row (codes "step") (last (board body Step))
-    ∷ row (codes "refresh") (refresh_row body)
+    ∷ row (codes "refresh") (page_row body (λ p. Act (Refresh p)))
     ∷ row (codes "wall") (last (board body Wall))
     ∷ row (codes "counts") (counts_row body)
     ∷ row (codes "next") (last (board body Next))
-    ∷ row (codes "page") (page_row body)
-    ∷ row (codes "clock") (clock_row body)
+    ∷ row (codes "page") (page_row body ReadPage)
+    ∷ row (codes "clock") (page_row body ReadClock)
     ∷ row (codes "save") (last (Ok Save))
     ∷ row (codes "move") (move_row body)
-    ∷ row (codes "rose") (rose_row body)
+    ∷ row (codes "rose") (line_row body Rose)
     ∷ []
 
 -- what a record asks, by the words after its processor and its count

@@ -14,13 +14,10 @@ ghost use Rattle.trace_text.specs.Records.{
   hw_row,
   rdmsr_row,
   wrmsr_row,
-  ack_row,
-  rose_row,
+  line_row,
   apic_counts,
   counts_row,
-  refresh_row,
   page_row,
-  clock_row,
   move_row,
   page_at,
   IsJob,
@@ -152,7 +149,7 @@ pub(crate) fn wrmsr_job(body: &Body, words: &mut Words<'_>) -> Result<Job, Reaso
 
 #[inline(always)]
 pub(crate) fn ack_job(body: &Body, words: &mut Words<'_>) -> Result<Job, Reason>
-    ensures job { result ≡ ack_row body.now words.old }
+    ensures job { result ≡ line_row body.now Access.Ack words.old }
     ensures valid { IfOk result (IsJob body.now) }
 {
     let line = words.dec8().ok_or(Reason::Form)?;
@@ -166,7 +163,7 @@ pub(crate) fn ack_job(body: &Body, words: &mut Words<'_>) -> Result<Job, Reason>
 
 #[inline(never)]
 pub(crate) fn rose_job(body: &Body, words: &mut Words<'_>) -> Result<Job, Reason>
-    ensures job { result ≡ rose_row body.now words.old }
+    ensures job { result ≡ line_row body.now Access.Rose words.old }
     ensures valid { IfOk result (IsJob body.now) }
 {
     let line = words.dec8().ok_or(Reason::Form)?;
@@ -270,7 +267,7 @@ fn page_in(body: &Body, words: &mut Words<'_>) -> Result<u8, Reason>
 
 #[inline(always)]
 pub(crate) fn refresh_job(body: &Body, words: &mut Words<'_>) -> Result<Job, Reason>
-    ensures job { result ≡ refresh_row body.now words.old }
+    ensures job { result ≡ page_row body.now (λ p. Call.Act (Access.Refresh p)) words.old }
     ensures valid { IfOk result (IsJob body.now) }
 {
     let page = page_in(body, words)?;
@@ -278,7 +275,7 @@ pub(crate) fn refresh_job(body: &Body, words: &mut Words<'_>) -> Result<Job, Rea
 }
 
 pub(crate) fn page_job(body: &Body, words: &mut Words<'_>) -> Result<Job, Reason>
-    ensures job { result ≡ page_row body.now words.old }
+    ensures job { result ≡ page_row body.now Call.ReadPage words.old }
     ensures valid { IfOk result (IsJob body.now) }
 {
     let page = page_in(body, words)?;
@@ -287,7 +284,7 @@ pub(crate) fn page_job(body: &Body, words: &mut Words<'_>) -> Result<Job, Reason
 
 #[inline(always)]
 pub(crate) fn clock_job(body: &Body, words: &mut Words<'_>) -> Result<Job, Reason>
-    ensures job { result ≡ clock_row body.now words.old }
+    ensures job { result ≡ page_row body.now Call.ReadClock words.old }
     ensures valid { IfOk result (IsJob body.now) }
 {
     let page = page_in(body, words)?;

@@ -2,7 +2,7 @@
 //! them.
 ghost use Rattle.std.specs.Prelude.{◌≡◌, ◌++◌, [], Ok, IfSome};
 ghost use Rattle.trace_text.specs.Tokens.{words_of};
-ghost use Rattle.trace_text.specs.Records.{job_of, in_row, out_row, hr_row, ack_row, clock_row, IsJob};
+ghost use Rattle.trace_text.specs.Records.{job_of, in_row, out_row, hr_row, line_row, page_row, IsJob};
 
 use crate::jobs::act;
 use crate::records::{Body, Call, Job};
@@ -125,7 +125,7 @@ fn usual_hr(body: &Body, words: &mut Words<'_>) -> Option<Job>
 /// The line, if its number has few digits.
 #[inline(always)]
 fn usual_ack(body: &Body, words: &mut Words<'_>) -> Option<Job>
-    ensures job { IfSome result (λ j. ack_row body.now words.old ≡ Ok j) }
+    ensures job { IfSome result (λ j. line_row body.now Access.Ack words.old ≡ Ok j) }
     ensures valid { IfSome result (IsJob body.now) }
 {
     let line = words.usual_dec()?;
@@ -139,7 +139,7 @@ fn usual_ack(body: &Body, words: &mut Words<'_>) -> Option<Job>
 /// The page, if its number has few digits.
 #[inline(always)]
 fn usual_clock(body: &Body, words: &mut Words<'_>) -> Option<Job>
-    ensures job { IfSome result (λ j. clock_row body.now words.old ≡ Ok j) }
+    ensures job { IfSome result (λ j. page_row body.now Call.ReadClock words.old ≡ Ok j) }
     ensures valid { IfSome result (IsJob body.now) }
 {
     let page = words.usual_dec()?;

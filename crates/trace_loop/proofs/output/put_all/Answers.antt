@@ -10,7 +10,8 @@ use Rattle.trace_loop.proofs.output.put_all.Goals as goal
 pub returns-in_err-put-clause-put : goal.returns-in_err-put-clause-put
 returns-in_err-put-clause-put g c =
     let contents = λ (sink : g.row.K.Denot). (g.K.Sink.output sink).contents in
-    let cut = on_err_from c.from_residual.result ((cut : List ℕ) × Begins cut c.args.text.now × Appends (contents c.args.sink.now) (contents c.put.new.self) cut) (
+    let cut = on_err_from c.from_residual.result ((cut : List ℕ) × Begins cut c.args.text.now × Appends (contents c.args.sink.now)
+    (contents c.put.new.self) cut) (
       take c.loop-put.put c.args.text.now,
       (drop c.loop-put.put c.args.text.now, sym (take-append-drop c.loop-put.put c.args.text.now)),
       Appends-kept (contents c.args.sink.now) (contents c.loop-put.sink) (contents c.put.new.self)

@@ -19,7 +19,8 @@ use Rattle.trace_loop.proofs.program.answer_fed.Goals.{In-Ok, After-refill}
 cut_off : (g : given.Over) (c : In-Ok g) → IsLine c.lines.feed.lines c.advance.new.self
 cut_off g c = c.in-Ok-true.ensures.line c.in-Ok-true.field-0-test
 
-heard : (g : given.Over) (c : In-Ok g) → IsAnswered {F = NoMemory} (g.T.Answerer.answer (c.lines.feed.lines.number + 1) c.lines.answerer c.advance.new.self.line)
+heard : (g : given.Over) (c : In-Ok g) → IsAnswered {F = NoMemory} (g.T.Answerer.answer (c.lines.feed.lines.number + 1)
+    c.lines.answerer c.advance.new.self.line)
     c.lines.answerer c.answer_line.new.answerer c.lines.feed.out.items c.answer_line.new.out.items c.answer_line.new.end (Ok c.in-Ok.field-0)
 heard g c = subst (λ (x : Answer g.row.T.Denot g.row.E.Denot). IsAnswered {F = NoMemory} x c.lines.answerer c.answer_line.new.answerer c.lines.feed.out.items
     c.answer_line.new.out.items c.answer_line.new.end (Ok c.in-Ok.field-0))

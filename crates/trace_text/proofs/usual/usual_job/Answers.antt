@@ -1,5 +1,7 @@
 use Rattle.std.proofs.Common.{codes}
-use Rattle.trace_text.specs.Records.{in_row, out_row, clock_row, ack_row}
+use Rattle.board_types.specs.declared.access.Access.TheVariants.{Ack}
+use Rattle.trace_text.specs.Records.{in_row, out_row, line_row, page_row}
+use Rattle.trace_text.specs.declared.records.Call.TheVariants.{ReadClock}
 use Rattle.trace_text.proofs.UsualRows.{in_first, out_first, clock_first, ack_first, by_row, by_step}
 use Rattle.trace_text.proofs.usual.usual_job.Goals as goal
 
@@ -15,12 +17,12 @@ returns-in_ok-port-in-111-clause-job c =
 
 pub returns-in_ok-page-in-99-clause-job : goal.returns-in_ok-page-in-99-clause-job
 returns-in_ok-page-in-99-clause-job c =
-    by_row (clock_row c.args.body.now) c.args.body.now (codes "clock ") c.args.left.now c.in_ok-page-in-99.page.now c.new-in-99.result c.usual_clock.result
+    by_row (page_row c.args.body.now ReadClock) c.args.body.now (codes "clock ") c.args.left.now c.in_ok-page-in-99.page.now c.new-in-99.result c.usual_clock.result
     (clock_first c.args.body.now) c.in_ok-page-in-99.ensures c.new-in-99.ensures c.usual_clock.ensures.job
 
 pub returns-in_ok-line-in-97-clause-job : goal.returns-in_ok-line-in-97-clause-job
 returns-in_ok-line-in-97-clause-job c =
-    by_row (ack_row c.args.body.now) c.args.body.now (codes "ack ") c.args.left.now c.in_ok-line-in-97.line.now c.new-in-97.result c.usual_ack.result
+    by_row (line_row c.args.body.now Ack) c.args.body.now (codes "ack ") c.args.left.now c.in_ok-line-in-97.line.now c.new-in-97.result c.usual_ack.result
     (ack_first c.args.body.now) c.in_ok-line-in-97.ensures c.new-in-97.ensures c.usual_ack.ensures.job
 
 pub returns-in_ok-more-in-115-clause-job : goal.returns-in_ok-more-in-115-clause-job

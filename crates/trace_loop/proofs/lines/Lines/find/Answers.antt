@@ -44,7 +44,13 @@ over c =
 
 pub overflow_sub-result : goal.overflow_sub-result
 overflow_sub-result c =
-    omega (arith, over c, limit_grows (kept (met c)) (take c.unwrap_or-n.result (rest (met c))) c.self.invariant.5, c.len-then-len-n.ensures, c.self.inside.kept.ok.0)
+    omega (
+      arith,
+      over c,
+      limit_grows (kept (met c)) (take c.unwrap_or-n.result (rest (met c))) c.self.invariant.5,
+      c.len-then-len-n.ensures,
+      c.self.inside.kept.ok.0,
+    )
 
 pub returns-then-len-n : goal.returns-then-len-n
 returns-then-len-n c =
