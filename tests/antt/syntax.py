@@ -323,4 +323,10 @@ def modules(crates: Path, with_rows: bool = True) -> dict[str, Module]:
         if rest[-1] not in ("Lib", "private") and (part == "specs" or (with_rows and is_row)):
             key = ".".join((crate, part, *rest))
             found[key] = read_module(path, key, crate)
+    for module in found.values():
+        for name, (where, original) in module.imports.items():
+            place = where.rpartition(".")[0]
+            # a variant may be taken from its type, too
+            if where not in found and place in found and original in found[place].makers:
+                module.imports[name] = (place, original)
     return found

@@ -3,11 +3,16 @@ pub mod Answered
 pub mod Checked
 pub mod Counts
 pub mod Ended
+pub mod Gathered
+pub mod Going
 mod Messages
 mod Moves
+pub mod Parts
 pub mod Pieces
+pub mod Runs
 pub mod Same
 pub mod Settle
+pub mod Steps
 pub mod Taken
 pub mod Tallies
 pub mod Unpacked

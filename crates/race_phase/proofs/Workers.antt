@@ -25,14 +25,7 @@ use Rattle.std.proofs.Common.{
   subst,
   arith,
   All,
-  Result,
-  Ok,
   Err,
-  IfOk,
-  OnOk,
-  OnErr,
-  inl,
-  inr,
   length-append,
   append_assoc,
   append-nil,
@@ -46,7 +39,7 @@ use Rattle.std.proofs.Common.{
 use Rattle.std.specs.Prelude.{slice_get, IfSome}
 use Rattle.std.proofs.Math.ListN.{get_or-append}
 use Rattle.std.proofs.Math.Seq.{take-suc, drop-cons, get_or-append_seam}
-use Rattle.std.proofs.lemmas.List.{length-take-le, take-append-drop, take_more_set, take_all, drop_all, map-append}
+use Rattle.std.proofs.lemmas.List.{length-take-le, take-append-drop, take_more_set, map-append}
 use Rattle.std.proofs.lemmas.Option.{slice_get-get_or, get_or_from_slice_get, slice_get_within}
 use native.Mathlib.Decide.{ℕ_discrete}
 use Rattle.race_phase.specs.declared.deliveries.Deliveries.{Deliveries}
@@ -68,7 +61,6 @@ use Rattle.race_phase.specs.private.Workers.{
   IsTrouble,
   HasStopped,
   HasWorked,
-  AllGiven,
   AllWorked,
   place_text,
   places_text,
@@ -191,19 +183,6 @@ module _ (s : BoardParts) (ds : Deliveries) where
         worked-snoc rs (suc n) ps all.1 p zs all.4 (subst (λ (k : ℕ). HasWorked s ds rs k p zs) at w),
       )
 
-  -- what is given by one call more
-  pub given_front : {A E : Type 0} (xs : List (Result A E)) (x : Result A E) (pass : A → PassKnown) (answers : A → List ℕ) (rs : List Record)
-      → AllGiven (xs ++ x ∷ []) pass answers s ds rs → AllGiven xs pass answers s ds rs
-  given_front xs x pass answers rs all i d l =
-      let more : i < length (xs ++ x ∷ []) = let e = length-append xs (x ∷ []) in omega arith in
-      subst (λ r. IfOk r (λ w. HasWorked s ds rs i (pass w) (answers w))) (get_or-append xs (x ∷ []) d i l) (all i d more)
-
-  pub given_last : {A E : Type 0} (xs : List (Result A E)) (x : Result A E) (pass : A → PassKnown) (answers : A → List ℕ) (rs : List Record)
-      → AllGiven (xs ++ x ∷ []) pass answers s ds rs → IfOk x (λ w. HasWorked s ds rs (length xs) (pass w) (answers w))
-  given_last xs x pass answers rs all =
-      let more : length xs < length (xs ++ x ∷ []) = let e = length-append xs (x ∷ []) in omega arith in
-      subst (λ r. IfOk r (λ w. HasWorked s ds rs (length xs) (pass w) (answers w))) (get_or-append_seam xs x [] x) (all (length xs) x more)
-
 -- the blocks of records, one more at a time
 pub places_text-snoc : (ds : Deliveries) (rs : List Record) (ts : List Place) (r : Record) (t : Place) → length ts ≡ length rs
     → places_text ds (rs ++ r ∷ []) (ts ++ t ∷ []) ≡ places_text ds rs ts ++ place_text ds r t
@@ -311,37 +290,6 @@ read_fits cpus format rs i r is fit =
     subst (IsFitting cpus format) (get_or_from_slice_get rs i r r is) (fit i r (slice_get_within rs i r is))
 
 module _ (s : BoardParts) (ds : Deliveries) (n : ℕ) where
-  -- a record that another processor has
-  pub next_skipped : (i : ℕ) (rs : List Record) (d : Record) (ws : List Record) (xs : List ℕ) (p : PassKnown) → i < length rs → (get_or rs i d).cpu ≢ n
-      → AllButLast s ds n (records_of n (take i rs)) ws xs p → AllButLast s ds n (records_of n (take (i + 1) rs)) ws xs p
-  next_skipped i rs d ws xs p l other all =
-      let same : records_of n (take (i + 1) rs) ≡ records_of n (take i rs) =
-      ap (records_of n) (take_next rs i d l) ∙ records_skip n (take i rs) (get_or rs i d) other in
-      subst (λ (ys : List Record). AllButLast s ds n ys ws xs p) (sym same) all
-
-  -- a record that waits
-  pub next_waits : (i : ℕ) (rs : List Record) (d : Record) (ws : List Record) (xs : List ℕ) (p : PassKnown) → i < length rs → (get_or rs i d).cpu ≡ n
-      → AllButLast s ds n (records_of n (take i rs)) ws xs p
-      → AllButLast s ds n (records_of n (take (i + 1) rs)) (ws ++ get_or rs i d ∷ []) xs p
-  next_waits i rs d ws xs p l here all =
-      let r : Record = get_or rs i d in
-      let same : records_of n (take (i + 1) rs) ≡ records_of n (take i rs) ++ r ∷ [] =
-      ap (records_of n) (take_next rs i d l) ∙ records_take n (take i rs) [] r here in record {
-        done = all.done;
-        whole = same ∙ ap (λ ys. ys ++ r ∷ []) all.whole ∙ append_assoc all.done ws (r ∷ []);
-        made = all.made;
-        tried = all.tried;
-      }
-
-  -- the same of a record that was read
-  pub next_read : (i : ℕ) (rs : List Record) (r : Record) (ws : List Record) (xs : List ℕ) (p : PassKnown) → slice_get rs i ≡ Some r → r.cpu ≡ n
-      → AllButLast s ds n (records_of n (take i rs)) ws xs p
-      → AllButLast s ds n (records_of n (take (i + 1) rs)) (ws ++ r ∷ []) xs p
-  next_read i rs r ws xs p is here all =
-      let e : get_or rs i r ≡ r = get_or_from_slice_get rs i r r is in
-      subst (λ (x : Record). AllButLast s ds n (records_of n (take (i + 1) rs)) (ws ++ x ∷ []) xs p) e
-      (next_waits i rs r ws xs p (slice_get_within rs i r is) (ap (λ (x : Record). x.cpu) e ∙ here) all)
-
   -- those that wait are answered
   pub waits_made : (rs ws : List Record) (xs : List ℕ) (ts : List Place) (p q : PassKnown) → p.number ≡ n → AllButLast s ds n rs ws xs p
       → AllAnswered s ws ts p q → AllMade s ds n rs (xs ++ places_text ds ws ts) (mine q)
@@ -379,39 +327,3 @@ module _ (s : BoardParts) (ds : Deliveries) (n : ℕ) where
         fits = t.fits;
         legal = t.legal;
       }
-
--- the records of a processor, split at a place
-pub records_split : (n i : ℕ) (rs : List Record) → records_of n (take i rs) ++ records_of n (drop i rs) ≡ records_of n rs
-records_split n i rs = sym (records_of-append n (take i rs) (drop i rs)) ∙ ap (records_of n) (take-append-drop i rs)
-
--- a list that is written back over one of its length
-pub put_back : (new old : List Place) (n : ℕ) → length new ≡ length old → length new ≤ n → take n (new ++ drop (length new) old) ≡ new
-put_back new old n same room =
-    ap (λ (l : List Place). take n (new ++ l)) (drop_all (length new) old (let e = same in omega arith)) ∙ ap (take n) (append-nil new) ∙ take_all n new room
-
--- what is told of an error, where a result is none but that
-pub not_ok : {A E P : Type 0} (told : Result A E) → ((x : A) → told ≡ Ok x → ⊥) → OnErr told P → P
-not_ok (Ok x) none err = absurd (none x refl)
-not_ok (Err e) none err = err
-
--- a worker that has stopped at a batch, and one that has come to the last
-module _ (s : BoardParts) (ds : Deliveries) (n : ℕ) (i : ℕ) (rs ws : List Record) (xs : List ℕ) (p q : PassKnown) (is : p.number ≡ n)
-    (all : AllButLast s ds n (records_of n (take i rs)) ws xs p) where
-  pub batch_halted : (ys : List ℕ) → HasHalted s ws p q → HasWorked s ds rs n q ys
-  batch_halted ys halted = (
-    halted.number ∙ is,
-    inr (subst (λ (us : List Record). HasStopped s ds n us q) (records_split n i rs)
-        (waits_stopped s ds n (records_of n (take i rs)) ws (records_of n (drop i rs)) xs p q is all halted)),
-  )
-
-  pub batch_last : {A E : Type 0} (told : Result A E) (ys : List ℕ) → length rs ≤ i → OnOk told (HasPrinted s ds ws xs ys p q)
-      → OnErr told (HasHalted s ws p q) → HasWorked s ds rs n q ys
-  batch_last (Ok x) ys end printed halted = (
-    printed.2.number ∙ is,
-    inl (
-      subst (λ (z : List Record × List ℕ). AllMade s ds n (records_of n z.0) z.1 (mine q)) (λ k. (take_all i rs end k, sym printed.1 k))
-          (waits_made s ds n (records_of n (take i rs)) ws xs printed.0 p q is all printed.2),
-      printed.2.tried all.tried,
-    ),
-  )
-  batch_last (Err e) ys end printed halted = batch_halted ys halted

@@ -1,6 +1,7 @@
 pub mod Blocks
 pub mod Calls
 pub mod Order
+pub mod Parts
 pub mod Phases
 pub mod Tallies
 pub mod private

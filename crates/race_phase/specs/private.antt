@@ -4,4 +4,5 @@ pub mod Ran
 pub mod Tallied
 pub mod Told
 pub mod Packed
-pub mod Checked
+pub mod Feed
+pub mod Working

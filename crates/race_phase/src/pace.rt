@@ -11,7 +11,7 @@ pub(crate) const MOST_AT_ONCE: usize = 16;
 const LEAST_AT_ONCE: usize = 8;
 
 /// With fewer records of its processor left, a worker answers one at a time.
-const FEW: u64 = 1_000;
+pub(crate) const FEW: u64 = 1_000;
 
 /// How many records of a phase begin in turns: its last ones. With fewer left, times the number of workers, a worker takes
 /// turns.
@@ -37,24 +37,22 @@ pub(crate) struct Pace<'a> {
 }
 
 impl<'a> Pace<'a> {
-    /// The pace of a worker with so many records, which waits at the start line.
-    pub(crate) fn new<R: Wait>(
-        rt: &R,
-        schedule: &'a Schedule,
-        worker: u64,
-        records: u64,
-    ) -> Pace<'a> {
-        let mut pace = Pace {
+    /// The pace of a worker.
+    pub(crate) fn new(schedule: &'a Schedule, worker: u64) -> Pace<'a> {
+        Pace {
             schedule,
             worker,
             state: worker,
-        };
-        if records > 0 && pace.takes_turns(records) {
-            schedule.come(worker);
         }
-        schedule.start(rt, records < FEW);
-        pace.stir();
-        pace
+    }
+
+    /// Waits at the start line, where the worker has so many records at first.
+    pub(crate) fn start<R: Wait>(&mut self, rt: &R, records: u64) {
+        if records > 0 && self.takes_turns(records) {
+            self.schedule.come(self.worker);
+        }
+        self.schedule.start(rt, records < FEW);
+        self.stir();
     }
 
     /// Whether the worker takes turns, where so many records are left.

@@ -1,23 +1,17 @@
 //! A trace of phases, run by one thread a processor.
-ghost use Rattle.std.specs.Prelude.{◌≡◌, ◌++◌, All, IfOk, OnOk, None};
-ghost use Rattle.race_phase.specs.Phases.{
-  IsEnd,
-  IsPhase,
-  next_board,
-  end_fault,
-  end_text,
-  phase_fault,
-  trace_fault,
-  race_text,
-};
-ghost use Rattle.race_phase.specs.private.Ran.{PhaseRan};
+ghost use Rattle.std.specs.Prelude.{◌≡◌, ◌++◌, [], None, IfOk, IfSome, OnOk};
+ghost use Rattle.race_phase.specs.Phases.{trace_fault, race_text};
+ghost use Rattle.race_phase.specs.private.Feed.{PhaseHasEnded};
 
 use crate::deliveries::Deliveries;
 use crate::ends::end_phase;
+use crate::feed::{Feed, Feeding, Spot, Taken};
+use crate::halt::Halt;
 use crate::means::Means;
-use crate::phase::run_phase;
-use crate::phases::{End, Phase};
+use crate::phase::{RanPhase, run_phase};
+use crate::phases::End;
 use crate::text::Text;
+use crate::written::Written;
 use board_core::BoardState;
 use board_io::Gate;
 use clk_units::NoMemory;
@@ -27,87 +21,120 @@ use std::marker::Brand;
 use std::sync::Wait;
 use std::thread::Threads;
 
+/// How many phases a trace has at most: it has fewer.
+const MOST_PHASES: usize = 1 << 20;
+
 /// What a trace gave.
 #[derive(Drop)]
-pub struct Ran {
+pub struct Ran<'a, F: Feeding> {
     /// The board after the last phase.
     pub state: Box<BoardState>,
     /// The text of all phases.
     pub text: Text,
+    /// The trace that was run.
+    pub trace: Written<'a, F>,
 }
 
-/// Runs a trace of phases, of which no line is refused in file order: [`check`](crate::check) says so, and so does a
-/// [`Tally`](crate::Tally) as the lines are read. Each phase runs on a board that its threads share, one thread a processor, and ends by its
-/// save or move on the board that they leave.
-pub fn run_race<R: Threads + Wait + Sync, G: Gate + Sync>(
+/// Runs a trace as it is read. What it gives means nothing where a line of the trace is refused in file order. Each phase
+/// runs on a board that its threads share, one thread a processor, and ends by its save or move on the board that they
+/// leave.
+pub fn run_race<'a, F: Feeding + Send + Sync, R: Threads + Wait + Sync, G: Gate + Sync>(
     rt: &R,
     alloc: Global,
     gate: &G,
-    state: BoardState,
-    deliveries: &Deliveries,
-    phases: &[Phase],
-) -> Result<Ran, NoMemory>
-    requires fitting { All (IsPhase state.cpus state.format) phases.now }
-    requires free { trace_fault state phases.now ≡ None }
-    ensures { IfOk result
-        (λ r. race_text deliveries.now state phases.now r.state.value r.text) }
+    feed: &'a Feed<F>,
+) -> Result<Ran<'a, F>, Halt>
+    ensures { IfOk result (λ r. IfSome r.trace.opened (λ o.
+        trace_fault o.state r.trace.phases ≡ None
+        → race_text o.deliveries o.state r.trace.phases r.state.value r.text)) }
 {
-    let Ok(mut now) = Box::new(alloc, state) else {
-        return Err(NoMemory);
+    let opened = feed.opened(rt)?;
+    let Some(opening) = feed.opening(&opened) else {
+        return Err(Halt::Closed);
+    };
+    let Ok(mut now) = Box::new(alloc, opening.state) else {
+        return Err(Halt::NoMemory);
     };
     let means = Means { rt, alloc, gate };
     let mut text = Text::new(alloc);
-    let mut rest = phases;
-    while let Some((phase, tail)) = rest.split_first() {
-        now = next(&means, &*now, deliveries, phase, &mut text)?;
-        rest = tail;
+    let mut taken = Vec::new(alloc);
+    let mut from = Spot { piece: 0, part: 0 };
+    for _phase in 0..MOST_PHASES {
+        let ended = run_and_end(&means, &*now, &opening.deliveries, feed, from, &mut text)?;
+        join_parts(&mut taken, ended.taken)?;
+        now = ended.board;
+        from = ended.next;
+        if ended.end == End::Finish {
+            return Ok(Ran {
+                state: now,
+                text,
+                trace: Written { opened, put: taken },
+            });
+        }
     }
-    Ok(Ran { state: now, text })
+    Err(Halt::Closed)
 }
 
-/// Runs one phase and ends it, and gives the board with which the next opens.
-fn next<R: Threads + Wait + Sync, G: Gate + Sync>(
+/// Puts parts behind others.
+fn join_parts<'a, F: Feeding>(
+    taken: &mut Vec<Taken<'a, F>>,
+    more: Vec<Taken<'a, F>>,
+) -> Result<(), NoMemory>
+    ensures { OnOk result
+        (taken.new.items ≡ taken.old.items ++ more.entry.items) }
+{
+    for part in more {
+        let Ok(()) = taken.push(part) else {
+            return Err(NoMemory);
+        };
+    }
+    Ok(())
+}
+
+/// A phase that was run and ended.
+#[derive(Drop)]
+struct EndedPhase<'a, F: Feeding> {
+    /// The board with which the next opens.
+    board: Box<BoardState>,
+    taken: Vec<Taken<'a, F>>,
+    end: End,
+    /// Where the next begins.
+    next: Spot,
+}
+
+/// Runs one phase and ends it.
+fn run_and_end<'a, F: Feeding + Send + Sync, R: Threads + Wait + Sync, G: Gate + Sync>(
     means: &Means<'_, R, G>,
     state: &BoardState,
     deliveries: &Deliveries,
-    phase: &Phase,
+    feed: &'a Feed<F>,
+    from: Spot,
     text: &mut Text,
-) -> Result<Box<BoardState>, NoMemory>
-    requires fitting { IsPhase state.now.cpus state.now.format phase.now }
-    requires free { phase_fault state.now phase.now ≡ None }
-    ensures { IfOk result (λ after. PhaseRan deliveries.now state.now phase.now after.value
-        text.old text.new) }
+) -> Result<EndedPhase<'a, F>, Halt>
+    ensures { IfOk result (λ g. PhaseHasEnded state.now deliveries.now g.taken.items g.end
+        g.board.value text.old text.new) }
 {
     let blank = Blank::new(means.alloc, state)?;
-    let (mut board, lines) = run_phase::<Brand, R, G>(
-        means,
-        blank,
-        state,
-        deliveries,
-        &phase.records,
-    )?;
+    let RanPhase {
+        mut board,
+        text: lines,
+        taken,
+        end,
+        next,
+    } = run_phase::<Brand, F, R, G>(means, blank, state, deliveries, feed, from)?;
+    if board.cpus() != state.cpus() || board.format() != state.format() {
+        return Err(Halt::Closed);
+    }
     text.join(lines)?;
     let mut block = Vec::new(means.alloc);
-    end_free(&phase.end, &mut *board, deliveries, &mut block)?;
+    let None = end_phase(&end, &mut *board, deliveries, &mut block)? else {
+        return Err(Halt::Closed);
+    };
     text.append(block)?;
-    Ok(board)
-}
-
-/// Does what ends a phase, which is known not to be refused.
-fn end_free(
-    end: &End,
-    board: &mut BoardState,
-    deliveries: &Deliveries,
-    out: &mut Vec<u8>,
-) -> Result<(), NoMemory>
-    requires end { IsEnd board.old.cpus end.now }
-    requires free { end_fault board.old end.now ≡ None }
-    ensures board { OnOk result (board.new ≡ next_board end.now board.old) }
-    ensures text { OnOk result
-        (out.new.items ≡ out.old.items ++ end_text deliveries.now end.now board.old) }
-{
-    match end_phase(end, board, deliveries, out)? {
-        None => Ok(()),
-        Some(_fault) => unreachable!(),
-    }
+    Ok(EndedPhase {
+        board,
+        taken,
+        end,
+        next,
+    })
 }

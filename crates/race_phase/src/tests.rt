@@ -88,15 +88,3 @@ fn a_gap_that_ends_past_the_range(rt: HostRuntime) -> Result<(), Fail> {
     assert_eq!(rt; tally.check_count(500), Ok(()));
     Ok(())
 }
-
-#[test]
-fn a_save_past_the_range_or_by_no_processor_fails_the_check(rt: HostRuntime) {
-    let state = board();
-    for (cpu, h, is_taken) in [(0, 5, true), (0, RANGE_NS, false), (1, 5, false)] {
-        let phase = Phase {
-            records: RecordList::new(rt.alloc()),
-            end: End::Save { line: 1, cpu, h },
-        };
-        assert_eq!(rt; check(&state, &[phase]), is_taken);
-    }
-}

@@ -1,85 +1,125 @@
 //! One worker: it takes the records of one processor.
-ghost use Rattle.std.specs.Prelude.{◌≡◌, ◌<◌, [], All, IfOk};
+ghost use Rattle.std.specs.Prelude.{◌≡◌, ◌<◌, [], IfOk};
+ghost use Rattle.race_phase.specs.Parts.{IsPart, part_at};
 ghost use Rattle.shared_board.specs.Passes.{mine};
-ghost use Rattle.race_phase.specs.Calls.{IsFitting};
-ghost use Rattle.race_phase.specs.private.Workers.{HasWorked};
+ghost use Rattle.race_phase.specs.private.Feed.{HasRun};
 
-use crate::batch::{new_places, print_all};
-use crate::pace::{MOST_AT_ONCE, Pace};
-use crate::packed::RecordList;
+use crate::feed::{Feed, Feeding, Spot, Taken};
+use crate::halt::Halt;
+use crate::pace::{FEW, Pace};
+use crate::phases::End;
+use crate::piece::{Part, Piece};
 use crate::schedule::Schedule;
 use crate::worker::Worker;
+use crate::working::Working;
 use board_io::Gate;
-use clk_units::NoMemory;
 use clock_table::Name;
 use shared_board::Pass;
 use std::alloc::Global;
 use std::sync::Wait;
 
-/// About how many bytes the block of a record has: most have a line and no edge.
-const BLOCK_LEN: u64 = 40;
+/// How many parts a phase has at most: a trace has fewer.
+const MOST_PARTS: usize = 1 << 20;
 
 /// What a worker gives back.
 #[derive(Drop)]
-pub(crate) struct Worked<N: Name> {
+pub(crate) struct Worked<'a, N: Name, F: Feeding> {
     pub(crate) pass: Pass<N>,
     pub(crate) text: Vec<u8>,
+    /// The parts of the phase, the last of which ends it.
+    pub(crate) taken: Vec<Taken<'a, F>>,
+    pub(crate) end: End,
+    /// Where the next phase begins.
+    pub(crate) next: Spot,
 }
 
-/// Takes the records of the pass's processor in order: waits for the other workers at the start line, takes a few records,
-/// asks for the lock, and appends their blocks to a text of its own when it has given the lock back. It stops at the first
-/// record that isn't answered.
-pub(crate) fn work<N: Name, R: Wait, G: Gate>(
+/// Takes the records of the pass's processor in order, in the parts of a phase from a place on, as they come. It waits for the
+/// other workers at the start line, and then for none.
+pub(crate) fn work<'a, N: Name, F: Feeding, R: Wait, G: Gate>(
     worker: &Worker<'_, N, R, G>,
     alloc: Global,
     schedule: &Schedule,
-    records: &RecordList,
-    mut pass: Pass<N>,
-) -> Result<Worked<N>, NoMemory>
+    feed: &'a Feed<F>,
+    from: Spot,
+    pass: Pass<N>,
+) -> Result<Worked<'a, N, F>, Halt>
     requires cpu { pass.number < N.state.cpus }
     requires fresh { (mine pass ≡ []) × (pass.misses ≡ []) }
-    requires fitting { All (IsFitting N.state.cpus N.state.format) records.now }
-    ensures { IfOk result
-        (λ w. HasWorked N.state worker.now.deliveries.now records.now pass.number
-        w.pass w.text.items) }
+    requires cpus { worker.now.cpus ≡ N.state.cpus }
+    requires format { worker.now.format ≡ N.state.format }
+    ensures { IfOk result (λ w. HasRun N.state worker.now.deliveries.now
+        w.taken.items w.end pass.number w.pass w.text.items) }
 {
     let cpu = pass.number();
-    let mut left = records.count_of(cpu);
-    let mut places = new_places(alloc, MOST_AT_ONCE)?;
-    let mut text = new_text(alloc, left);
-    let mut batch = Vec::new(alloc);
-    let mut pace = Pace::new(worker.rt, schedule, cpu, left);
-    let mut at_once = pace.next(left);
-    let mut index = 0;
-    for place in 0..records.len() {
-        if u64::from(records.cpu(place)) == cpu {
-            let Ok(()) = batch.push(records.record(place)) else {
-                return Err(NoMemory);
-            };
-            if batch.len() >= at_once {
-                pace.wait(left);
-                worker.board.give_way();
-                let Ok(()) = print_all(worker, &mut pass, &batch, index, &mut places, &mut text)?
-                else {
-                    return Ok(Worked { pass, text });
-                };
-                index += batch.len() as u64;
-                left = left.saturating_sub(batch.len() as u64);
-                batch.clear();
-                at_once = pace.next(left);
-            }
+    let mut working = Working::new(alloc, pass)?;
+    let mut taken = Vec::new(alloc);
+    let mut pace = Pace::new(schedule, cpu);
+    let mut at = from;
+    for done in 0..MOST_PARTS {
+        let shown = feed.take(worker.rt, at.piece)?;
+        let piece = feed.piece(&shown)?;
+        let part = fitting_part(piece, worker.cpus, worker.format, at.part)?;
+        let left = left_of(part, cpu).saturating_add(working.waits());
+        if done == 0 {
+            working.make_room(left);
+            pace.start(worker.rt, left);
+        }
+        working.take(worker, &mut pace, &part.records, left)?;
+        let end = part.end;
+        let next = after(piece, at);
+        let Ok(()) = taken.push(Taken::of(shown, at.part)) else {
+            return Err(Halt::NoMemory);
+        };
+        at = next;
+        if let Some(end) = end {
+            working.answer(worker)?;
+            let Working { pass, text, .. } = working;
+            return Ok(Worked {
+                pass,
+                text,
+                taken,
+                end,
+                next,
+            });
         }
     }
-    let _halted = print_all(worker, &mut pass, &batch, index, &mut places, &mut text)?;
-    Ok(Worked { pass, text })
+    Err(Halt::Closed)
 }
 
-/// A text with room for the blocks of so many records. Where there is no memory for it, it grows as they are appended.
-fn new_text(alloc: Global, records: u64) -> Vec<u8>
-    ensures { result.items ≡ [] }
+/// A part that fits a board of so many processors and this format, where there is one.
+fn fitting_part(piece: &Piece, cpus: u8, format: u8, index: usize) -> Result<&Part, Halt>
+    ensures part { IfOk result (λ p. part_at piece.now index ≡ p.now) }
+    ensures fits { IfOk result (λ p. IsPart cpus format p.now) }
 {
-    match Vec::with_capacity(alloc, records.saturating_mul(BLOCK_LEN) as usize) {
-        Ok(text) => text,
-        Err(_) => Vec::new(alloc),
+    if piece.cpus() != cpus || piece.format() != format {
+        return Err(Halt::Closed);
+    }
+    match piece.part(index) {
+        Some(part) => Ok(part),
+        None => Err(Halt::Closed),
+    }
+}
+
+/// How many records of a processor are left: many, where the part doesn't end its phase.
+fn left_of(part: &Part, cpu: u64) -> u64 {
+    let own = part.records.count_of(cpu);
+    match part.end {
+        Some(_) => own,
+        None => own.saturating_add(FEW),
+    }
+}
+
+/// The place of the next part.
+fn after(piece: &Piece, at: Spot) -> Spot {
+    let part = at.part.saturating_add(1);
+    if part < piece.len() {
+        return Spot {
+            piece: at.piece,
+            part,
+        };
+    }
+    Spot {
+        piece: at.piece.saturating_add(1),
+        part: 0,
     }
 }

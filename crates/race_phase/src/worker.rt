@@ -10,4 +10,8 @@ pub(crate) struct Worker<'a, N: Name, R, G> {
     pub(crate) gate: &'a G,
     pub(crate) board: &'a SharedBoard<N>,
     pub(crate) deliveries: &'a Deliveries,
+    /// How many processors the board has.
+    pub(crate) cpus: u8,
+    /// Its format.
+    pub(crate) format: u8,
 }

@@ -29,8 +29,8 @@ use Rattle.trace_runner.specs.Check.{
 }
 use Rattle.trace_runner.specs.Checking.{Checking}
 use Rattle.trace_runner.specs.Trace.{TraceRead}
-use Rattle.trace_runner.specs.declared.check.Checked.{Checked}
-use Rattle.trace_runner.specs.declared.check.Checked.TheVariants.{Whole, Stopped}
+use Rattle.trace_runner.specs.Checked.{Checked}
+use Rattle.trace_runner.specs.Checked.Checked.{Whole, Stopped}
 use Rattle.trace_runner.specs.declared.replay.Replay.{Replay}
 use Rattle.trace_runner.specs.declared.status.Verdict.{Verdict}
 use Rattle.trace_runner.proofs.Stays.{stays, stays-closed}

@@ -1,5 +1,5 @@
 -- What is true of a check before each line stays true after it.
-use Rattle.std.proofs.Common.{◌≡◌, ℕ, ◌+◌, ◌<◌, ◌≤◌, List, Option, None, Result, Ok, Err, OnOk, refl, sym, subst, ◌∙◌, arith}
+use Rattle.std.proofs.Common.{◌≡◌, ℕ, Bool, ◌+◌, ◌<◌, ◌≤◌, List, Option, None, Result, Ok, Err, OnOk, refl, sym, subst, ◌∙◌, arith}
 use Rattle.std.proofs.lemmas.Bool.{cond_both, leb-false}
 use Rattle.clk_units.specs.declared.NoMemory.{NoMemory}
 use Rattle.board_types.specs.declared.parts.BoardParts.{BoardParts}
@@ -16,7 +16,7 @@ use Rattle.trace_text.specs.declared.reading.Item.TheVariants.{Begun, Next, End}
 use Rattle.trace_loop.specs.Progress.{Answer, Goes, Ends}
 use Rattle.trace_loop.specs.Answered.{end_of, state_after}
 use Rattle.trace_runner.specs.Records.{job_answer}
-use Rattle.trace_runner.specs.Replay.{with_board, record_answer, item_answer}
+use Rattle.trace_runner.specs.Replay.{at_start, with_board, record_answer, item_answer}
 use Rattle.trace_runner.specs.Ready.{IsRound, IsReady, JobSuits, Suits}
 use Rattle.trace_runner.specs.Sound.{IsSound}
 use Rattle.trace_runner.specs.Check.{
@@ -27,13 +27,22 @@ use Rattle.trace_runner.specs.Check.{
   record_checked,
   item_checked,
   read_on,
+  unchecked,
   IsCheckReady,
 }
 use Rattle.trace_runner.specs.Checking.{Checking}
-use Rattle.trace_runner.specs.declared.check.Checked.{Checked}
+use Rattle.trace_runner.specs.Checked.{Checked}
 use Rattle.trace_runner.specs.declared.status.Verdict.{Verdict}
 use Rattle.trace_runner.proofs.ReadyNext.{ready_next}
-use Rattle.trace_runner.proofs.Sounds.{Keeps, job_kept, read_sound, begun_sound}
+use Rattle.trace_runner.proofs.Sounds.{Keeps, job_kept, read_sound, begun_sound, unchecked_sound}
+
+-- before the first line
+pub check_start : (shows_state : Bool) → IsCheckReady 1 (unchecked (at_start shows_state))
+check_start shows_state = record {
+  replay = record { count = refl; round = tt };
+  few = omega arith;
+  sound = unchecked_sound (at_start shows_state);
+}
 
 -- after a record that is kept
 kept_ready : (line : ℕ) (rec : Written) (job : Job) (s : Checking) → s.taken < 200000 → IsReady (line + 1) s.replay

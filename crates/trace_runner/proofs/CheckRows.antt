@@ -9,8 +9,8 @@ use Rattle.trace_text.specs.declared.records.Job.TheVariants.{Ask, Save, Move}
 use Rattle.trace_text.specs.declared.records.Record.{Record as Written}
 use Rattle.trace_runner.specs.Check.{kept, record_checked, fault_checked, trace_of}
 use Rattle.trace_runner.specs.Checking.{Checking}
-use Rattle.trace_runner.specs.declared.check.Checked.{Checked}
-use Rattle.trace_runner.specs.declared.check.Checked.TheVariants.{Stopped}
+use Rattle.trace_runner.specs.Checked.{Checked}
+use Rattle.trace_runner.specs.Checked.Checked.{Stopped}
 use Rattle.trace_text.specs.declared.records.Call.TheVariants.{ReadPage}
 use Rattle.race_phase.specs.declared.phases.End.TheVariants.{
   Finish,

@@ -2,6 +2,7 @@ pub mod Alone
 pub mod CheckQuiet
 pub mod CheckReady
 mod CheckRows
+pub mod Counted
 pub mod Counts
 pub mod FileOrder
 pub mod Greatest

@@ -23,8 +23,8 @@ use Rattle.trace_runner.specs.Replay.{replay, at_start}
 use Rattle.trace_runner.specs.Said.{Said, SaidAtMost}
 use Rattle.trace_runner.specs.Status.{verdict_status}
 use Rattle.trace_runner.specs.Trace.{TraceRead}
-use Rattle.trace_runner.specs.declared.check.Checked.{Checked}
-use Rattle.trace_runner.specs.declared.check.Checked.TheVariants.{Whole, Stopped}
+use Rattle.trace_runner.specs.Checked.{Checked}
+use Rattle.trace_runner.specs.Checked.Checked.{Whole, Stopped}
 use Rattle.trace_runner.specs.declared.status.Status.{Status}
 use Rattle.trace_runner.specs.declared.status.Status.TheVariants.{Ok, NoMemory}
 use Rattle.trace_runner.specs.declared.status.Verdict.{Verdict}

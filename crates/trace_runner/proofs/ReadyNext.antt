@@ -70,7 +70,7 @@ pub moved-cpus : (khz start gap : ℕ) (b : BoardParts) → (moved_to khz start 
 unfolding moved_to reanchored hv_published_at_host
 moved-cpus khz start gap b = published_below-cpus b khz start gap b.cpus (reanchored khz start gap b)
 
-moved-format : (khz start gap : ℕ) (b : BoardParts) → (moved_to khz start gap b).format ≡ b.format
+pub moved-format : (khz start gap : ℕ) (b : BoardParts) → (moved_to khz start gap b).format ≡ b.format
 unfolding moved_to reanchored hv_published_at_host
 moved-format khz start gap b = published-format b khz start gap b.cpus (reanchored khz start gap b)
 

@@ -21,7 +21,6 @@ use Rattle.std.proofs.Common.{
   arith,
   option_map,
 }
-use Rattle.trace_text.specs.Header.{board_of}
 use Rattle.std.specs.Option.{option_map}
 use Rattle.std.proofs.lemmas.List.Elements.{All-nil, All-push}
 use Rattle.host_counter.specs.declared.TimeFault.{TimeFault}
@@ -71,6 +70,7 @@ use Rattle.race_phase.specs.declared.phases.End.TheVariants.{
   Move as ByMove,
 }
 use Rattle.race_phase.specs.declared.records.Record.{Record}
+use Rattle.trace_runner.specs.declared.replay.Replay.{Replay}
 use Rattle.trace_runner.specs.declared.status.Verdict.{Verdict}
 use Rattle.race_phase.proofs.Checked.{or_both, after_records-snoc, records_fault-snoc}
 use Rattle.trace_runner.proofs.FileOrder.{after_phases-snoc, trace_fault-snoc}
@@ -224,19 +224,21 @@ read_sound text s sound = record {
 nothing_free : (b : BoardParts) → IsFree b []
 nothing_free b = record { fit = All-nil (IsPhase b.cpus b.format); free = refl }
 
+-- no record was checked yet
+pub unchecked_sound : (r : Replay) → IsSound (unchecked r)
+unchecked_sound r = record {
+  done = nothing_free r.board;
+  fit = All-nil (IsFitting r.board.cpus r.board.format);
+  free = refl;
+  greatest = r.board.greatest;
+  board = refl;
+  cpus = refl;
+  format = refl;
+  few = omega arith;
+}
+
 pub begun_sound : (header : Header) (s : Checking) → IsSound (unchecked (with_header header s.replay))
-begun_sound header s =
-    let b : BoardParts = board_of header.begin in
-    record {
-      done = nothing_free b;
-      fit = All-nil (IsFitting b.cpus b.format);
-      free = refl;
-      greatest = b.greatest;
-      board = refl;
-      cpus = refl;
-      format = refl;
-      few = omega arith;
-    }
+begun_sound header s = unchecked_sound (with_header header s.replay)
 
 -- the trace at its end
 pub whole_free : (s t : Checking) (b : BoardParts) (vs : List Phase) → IsSound s → s.taken ≤ 200000 → t ≡ with_end Finish s → b ≡ t.opening

@@ -116,8 +116,8 @@ use Rattle.trace_runner.specs.Replay.{
 use Rattle.trace_runner.specs.Replayed.{board_after_phases, records_after, replayed}
 use Rattle.race_phase.specs.declared.phases.Phase.{Phase}
 use Rattle.trace_runner.specs.Trace.{TraceRead}
-use Rattle.trace_runner.specs.declared.check.Checked.{Checked}
-use Rattle.trace_runner.specs.declared.check.Checked.TheVariants.{Whole, Stopped}
+use Rattle.trace_runner.specs.Checked.{Checked}
+use Rattle.trace_runner.specs.Checked.Checked.{Whole, Stopped}
 use Rattle.trace_runner.specs.declared.replay.Replay.{Replay}
 use Rattle.trace_runner.specs.declared.status.Verdict.{Verdict}
 use Rattle.trace_runner.specs.declared.status.Verdict.TheVariants.{Done}

@@ -1,5 +1,5 @@
--- A trace is read whole and checked before its processors run: what each of its lines does, and
--- what is known at its end. Nothing is printed but the line that is refused.
+-- A trace is read whole and checked while its processors run: what each of its lines does, and what
+-- is known at its end. Nothing is printed before that but the line that is refused.
 use Rattle.std.specs.Prelude.{
   ℕ,
   ◌+◌,
@@ -51,8 +51,8 @@ use Rattle.race_phase.specs.declared.phases.End.TheVariants.{
   Save as BySave,
   Move as ByMove,
 }
-use Rattle.trace_runner.specs.declared.check.Checked.{Checked}
-use Rattle.trace_runner.specs.declared.check.Checked.TheVariants.{Whole, Stopped}
+use Rattle.trace_runner.specs.Checked.{Checked}
+use Rattle.trace_runner.specs.Checked.Checked.{Whole, Stopped}
 use Rattle.trace_runner.specs.declared.replay.Replay.{Replay}
 use Rattle.trace_runner.specs.declared.status.Verdict.{Verdict}
 

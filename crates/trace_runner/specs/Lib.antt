@@ -1,4 +1,5 @@
 pub mod Check
+pub mod Checked
 pub mod Checking
 pub mod Deliveries
 pub mod FileText
@@ -16,3 +17,4 @@ pub mod Status
 pub mod Text
 pub mod Trace
 pub mod WholeLines
+pub mod private

@@ -1,4 +1,4 @@
-//! The check of a trace: it is read whole, in file order, before its processors run.
+//! The check of a trace: its records are counted in file order, while its processors run.
 ghost use Rattle.std.specs.Prelude.{
   ◌≡◌,
   ◌<◌,
@@ -8,6 +8,7 @@ ghost use Rattle.std.specs.Prelude.{
   None,
   Ok,
   IfOk,
+  IsErr,
   OnOk,
 };
 ghost use Rattle.std.specs.Bool.{OnTrue, OnFalse};
@@ -21,6 +22,7 @@ ghost use Rattle.trace_text.specs.Lines.{
 };
 ghost use Rattle.trace_text.specs.Records.{IsFittingCall};
 ghost use Rattle.race_phase.specs.Phases.{IsEnd, next_board, end_fault};
+ghost use Rattle.race_phase.specs.Tallies.{IsTally};
 ghost use Rattle.trace_runner.specs.Ready.{Suits};
 ghost use Rattle.trace_runner.specs.Replayed.{
   board_after_phases,
@@ -44,51 +46,40 @@ ghost use Rattle.trace_runner.specs.Check.{
 use crate::counting::{admits, count_call, count_end, refused_job};
 use crate::deliveries::deliveries_of;
 use crate::replay::{no_routes, opening};
-use crate::status::Verdict;
 use crate::trace::Trace;
 use board_core::BoardState;
 use clk_units::NoMemory;
-use race_phase::{Deliveries, End, NewHost, Phase, Record, RecordList, Tally};
+use race_phase::{Deliveries, End, Feed, Feeding, NewHost, Record, Tally, Writer};
 use reply_text::Refused;
 use std::alloc::Global;
 use std::marker::Model;
-use std::mem;
 use trace_text::{Begin, Call, Header, Item, Job, Reading, Record as Written, RecordFault};
 
 /// How many records a trace may have whose processors run on threads of their own.
 const RECORDS_MAX: u64 = 200_000;
 
-/// What a check ends with.
-#[derive(Drop)]
-pub(crate) enum Checked {
-    /// The trace, read to its end.
-    Whole(Trace),
-    /// A line is refused.
-    Stopped(Verdict),
-}
-
-/// A trace that is checked: its records are counted one after the other, in file order, and kept for the processors'
-/// threads. Nothing is printed but a refusal.
+/// A trace that is checked: its records are counted one after the other, in file order, and put into the feed of the
+/// processors' threads. Nothing is printed but a refusal.
 ///
 /// Contracts see in it a replay of these records, with the board that they leave. That board isn't there: it is worked
 /// out from the records, and a tally of its counts says what it refuses.
 #[derive(Drop)]
-pub(crate) struct Check {
+pub(crate) struct Check<'a, F: Feeding> {
     reading: Reading,
     shows_state: bool,
     deliveries: Deliveries,
     /// The counts of the board after the records.
     tally: Tally,
     opening: BoardState,
-    phases: Vec<Phase>,
-    last: RecordList,
+    /// Puts the phases, and the records after the last of them.
+    writer: Writer<'a, F>,
     taken: u64,
 }
 
-impl Model for Check {
+impl<'a, F: Feeding> Model for Check<'a, F> {
     ghost use Rattle.trace_runner.specs.Checking.{Checking};
     ghost use Rattle.trace_runner.specs.Replayed.{replayed};
-    ghost use Rattle.race_phase.specs.Tallies.{IsTally};
+    ghost use Rattle.trace_runner.specs.private.Counted.{IsCounted};
 
     ghost Value = { Checking };
 
@@ -96,21 +87,21 @@ impl Model for Check {
       replay = record {
         reading = c.reading;
         shows_state = c.shows_state;
-        board = replayed c.opening c.phases.items c.last;
+        board = replayed c.opening c.writer.phases c.writer.last;
         deliveries = c.deliveries;
       };
       opening = c.opening;
-      phases = c.phases.items;
-      last = c.last;
+      phases = c.writer.phases;
+      last = c.writer.last;
       taken = c.taken;
     } };
 
-    ghost invariant = { λ c. IsTally (replayed c.opening c.phases.items c.last) c.tally };
+    ghost invariant = { λ c. IsCounted c.opening c.deliveries c.writer c.tally };
 }
 
-impl Check {
+impl<'a, F: Feeding> Check<'a, F> {
     /// Before the first line of a trace, at whose end the board's state is shown or not.
-    pub(crate) fn new(alloc: Global, shows_state: bool) -> Check
+    pub(crate) fn new(alloc: Global, feed: &'a Feed<F>, shows_state: bool) -> Check<'a, F>
         ensures { result ≡ unchecked (at_start shows_state) }
     {
         let board = BoardState::power_on(&opening());
@@ -120,8 +111,7 @@ impl Check {
             deliveries: no_routes(),
             tally: Tally::of_board(&board),
             opening: board,
-            phases: Vec::new(alloc),
-            last: RecordList::new(alloc),
+            writer: Writer::new(alloc, feed, board.cpus(), board.format()),
             taken: 0,
         }
     }
@@ -136,18 +126,21 @@ impl Check {
         ensures { OnOk result (self.new ≡ kept line given.now (Job.Ask call)
             (on_board (board_after_phases self.old.replay.board given.now.cpu given.now.h call) self.old)) }
     {
-        self.last.push(&Record {
+        let Ok(()) = self.writer.push(&Record {
             line,
             cpu: given.cpu,
             h: given.h,
             call,
-        })?;
+        })
+        else {
+            return recount(&mut self.tally, &self.opening);
+        };
         count_call(&mut self.tally, given.cpu, given.h, &call);
         self.taken += 1;
         Ok(())
     }
 
-    /// Ends the phase by what isn't refused, and counts it. Where memory runs out the phase goes on.
+    /// Ends the phase by what isn't refused, and counts it.
     #[inline(never)]
     fn end_phase(&mut self, end: End) -> Result<(), NoMemory>
         requires few { self.old.taken ≤ 200000 }
@@ -156,12 +149,9 @@ impl Check {
         ensures { OnOk result (self.new
             ≡ with_end end (on_board (next_board end self.old.replay.board) self.old)) }
     {
-        let none = RecordList::new(*self.phases.allocator());
-        let records = mem::replace(&mut self.last, none);
-        if let Err(failed) = self.phases.push(Phase { records, end }) {
-            self.last = failed.value.records;
-            return Err(NoMemory);
-        }
+        let Ok(()) = self.writer.end(end) else {
+            return recount(&mut self.tally, &self.opening);
+        };
         count_end(&mut self.tally, end);
         self.taken += 1;
         Ok(())
@@ -226,40 +216,48 @@ impl Check {
     }
 
     /// The header is whole: the board is made.
-    pub(crate) fn begin(&mut self, header: &Header)
+    pub(crate) fn begin(&mut self, header: &Header) -> Result<(), NoMemory>
         requires { Suits (Item.Begun header.now) self.old.replay.board }
-        ensures { self.new ≡ unchecked (with_header header.now self.old.replay) }
+        ensures { OnOk result (self.new ≡ unchecked (with_header header.now self.old.replay)) }
     {
-        self.opening = match header.begin {
+        let opening = match header.begin {
             Begin::Fresh(setup) => BoardState::power_on(&setup),
             Begin::Saved(board) => board,
         };
-        self.deliveries = deliveries_of(self.opening.cpus(), &header.routes);
+        let deliveries = deliveries_of(opening.cpus(), &header.routes);
+        self.writer.open(&opening, &deliveries)?;
+        self.opening = opening;
+        self.deliveries = deliveries;
         self.tally = Tally::of_board(&self.opening);
-        self.phases.clear();
-        self.last = RecordList::new(*self.phases.allocator());
         self.taken = 0;
+        Ok(())
     }
 
     /// The trace, which was read to its end. The check is then as before its first record.
-    pub(crate) fn whole(&mut self) -> Result<Trace, NoMemory>
+    pub(crate) fn whole(&mut self, alloc: Global) -> Result<Trace<'a, F>, NoMemory>
         requires few { self.old.taken ≤ 200000 }
         requires sound { IsSound self.old }
         ensures { IfOk result (λ trace. trace ≡ trace_of self.old) }
     {
         self.end_phase(End::Finish)?;
-        let alloc = *self.phases.allocator();
+        let written = self.writer.written();
+        self.tally = Tally::of_board(&self.opening);
+        let written = written?;
         let Ok(opening) = Box::new(alloc, self.opening) else {
             return Err(NoMemory);
         };
-        let phases = mem::replace(&mut self.phases, Vec::new(alloc));
-        self.tally = Tally::of_board(&self.opening);
         Ok(Trace {
             opening,
             deliveries: self.deliveries,
-            phases,
+            written,
             shows_state: self.shows_state,
         })
+    }
+
+    /// Closes the feed: what waits for more of the trace stops.
+    pub(crate) fn close_feed(self) {
+        let Check { mut writer, .. } = self;
+        writer.close();
     }
 
     /// Takes a line, which may be no record, or refused.
@@ -297,6 +295,17 @@ impl Check {
     {
         self.reading.at_end()
     }
+}
+
+/// Counts anew, where the writer had no memory for more: it is as before its first record.
+#[cold]
+#[inline(never)]
+fn recount(tally: &mut Tally, opening: &BoardState) -> Result<(), NoMemory>
+    ensures err { IsErr result }
+    ensures after { IsTally opening.now tally.new }
+{
+    *tally = Tally::of_board(opening);
+    Err(NoMemory)
 }
 
 /// What ends a phase by a record: a move, or else a save.

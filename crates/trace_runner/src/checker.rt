@@ -16,11 +16,14 @@ ghost use Rattle.trace_runner.specs.Check.{
   has_form,
   unchecked,
 };
+ghost use Rattle.trace_runner.specs.Checked.Checked.{Stopped};
 ghost use Rattle.trace_runner.specs.Replay.{at_start};
 
-use crate::check::{Check, Checked};
+use crate::check::Check;
 use crate::status::{Verdict, stop};
+use crate::trace::Checked;
 use clk_units::NoMemory;
+use race_phase::{Feed, Feeding};
 use reply_text::{Reason, Refused};
 use std::alloc::Global;
 use std::marker::Model;
@@ -30,13 +33,13 @@ use trace_text::{Item, Job, Record as Written, RecordFault};
 /// A check, with a place for the record that a line is: it is read into that place and handed on by reference, so that
 /// none is moved.
 #[derive(Drop)]
-pub(crate) struct Checker {
-    check: Check,
+pub(crate) struct Checker<'a, F: Feeding> {
+    check: Check<'a, F>,
     /// The record that is taken; between two lines it means nothing.
     given: Written,
 }
 
-impl Model for Checker {
+impl<'a, F: Feeding> Model for Checker<'a, F> {
     ghost use Rattle.trace_runner.specs.Checking.{Checking};
 
     ghost Value = { Checking };
@@ -44,13 +47,13 @@ impl Model for Checker {
     ghost view = { λ c. c.check };
 }
 
-impl Checker {
+impl<'a, F: Feeding> Checker<'a, F> {
     /// Before the first line of a trace, at whose end the board's state is shown or not.
-    pub(crate) fn new(alloc: Global, shows_state: bool) -> Checker
+    pub(crate) fn new(alloc: Global, feed: &'a Feed<F>, shows_state: bool) -> Checker<'a, F>
         ensures { result ≡ unchecked (at_start shows_state) }
     {
         Checker {
-            check: Check::new(alloc, shows_state),
+            check: Check::new(alloc, feed, shows_state),
             given: Written {
                 cpu: 0,
                 h: 0,
@@ -58,9 +61,15 @@ impl Checker {
             },
         }
     }
+
+    /// Closes the feed: what waits for more of the trace stops.
+    pub(crate) fn close_feed(self) {
+        let Checker { check, .. } = self;
+        check.close_feed();
+    }
 }
 
-impl Answerer<Checked> for Checker {
+impl<'a, F: Feeding> Answerer<Checked<'a, F>> for Checker<'a, F> {
     ghost use Rattle.trace_runner.specs.Check.{check_answer, check_closing, IsCheckReady};
 
     ghost answer = { check_answer };
@@ -77,7 +86,7 @@ impl Answerer<Checked> for Checker {
         line: u64,
         text: &[u8],
         out: &mut Vec<u8>,
-        end: &mut Option<Checked>,
+        end: &mut Option<Checked<'a, F>>,
     ) -> Result<(), NoMemory> {
         if self.check.read_record(text, &mut self.given) {
             return self.check.take(line, &self.given, out, end);
@@ -85,12 +94,12 @@ impl Answerer<Checked> for Checker {
         self.check.answer_other(line, text, out, end)
     }
 
-    fn close(&mut self, line: u64, out: &mut Vec<u8>) -> Result<Checked, NoMemory> {
+    fn close(&mut self, line: u64, out: &mut Vec<u8>) -> Result<Checked<'a, F>, NoMemory> {
         self.check.close(line, out)
     }
 }
 
-impl Check {
+impl<'a, F: Feeding> Check<'a, F> {
     /// Refuses a record where a replay would, or keeps it. A common one is kept here; what ends a phase, or is refused,
     /// is apart, since ends and causes have places that a call clears as it begins.
     #[inline(always)]
@@ -99,7 +108,7 @@ impl Check {
         line: u64,
         given: &Written,
         out: &mut Vec<u8>,
-        end: &mut Option<Checked>,
+        end: &mut Option<Checked<'a, F>>,
     ) -> Result<(), NoMemory>
         requires suits { Suits (Item.Next given.now) self.old.replay.board }
         requires open { end.old ≡ None }
@@ -120,7 +129,7 @@ impl Check {
         line: u64,
         given: &Written,
         out: &mut Vec<u8>,
-        end: &mut Option<Checked>,
+        end: &mut Option<Checked<'a, F>>,
     ) -> Result<(), NoMemory>
         requires suits { Suits (Item.Next given.now) self.old.replay.board }
         requires open { end.old ≡ None }
@@ -142,7 +151,7 @@ impl Check {
         line: u64,
         item: &Item,
         out: &mut Vec<u8>,
-        end: &mut Option<Checked>,
+        end: &mut Option<Checked<'a, F>>,
     ) -> Result<(), NoMemory>
         requires item { Suits item.now self.old.replay.board }
         requires other { record_of_item item.now ≡ None }
@@ -154,14 +163,11 @@ impl Check {
     {
         match item {
             Item::Skipped | Item::Part => Ok(()),
-            Item::Begun(header) => {
-                self.begin(header);
-                Ok(())
-            }
+            Item::Begun(header) => self.begin(header),
             Item::Next(_record) => unreachable!(),
             Item::End => {
-                let trace = self.whole()?;
-                *end = Some(Checked::Whole(trace));
+                let trace = self.whole(*out.allocator())?;
+                *end = Some(Checked::whole(trace));
                 Ok(())
             }
         }
@@ -173,7 +179,7 @@ impl Check {
         line: u64,
         fault: RecordFault,
         out: &mut Vec<u8>,
-        end: &mut Option<Checked>,
+        end: &mut Option<Checked<'a, F>>,
     ) -> Result<(), NoMemory>
         ensures printed { OnOk result
             (out.new.items ≡ out.old.items ++ (fault_checked line fault self.now).text) }
@@ -196,7 +202,7 @@ impl Check {
         line: u64,
         text: &[u8],
         out: &mut Vec<u8>,
-        end: &mut Option<Checked>,
+        end: &mut Option<Checked<'a, F>>,
     ) -> Result<(), NoMemory>
         requires room { line < 2 ^ 63 }
         requires may { IsCheckReady line self.old }
@@ -213,7 +219,7 @@ impl Check {
     }
 
     /// Refuses the end of the input, where the trace has not ended.
-    fn close(&self, line: u64, out: &mut Vec<u8>) -> Result<Checked, NoMemory>
+    fn close(&self, line: u64, out: &mut Vec<u8>) -> Result<Checked<'a, F>, NoMemory>
         requires room { line < 2 ^ 63 }
         requires may { IsCheckReady line self.now }
         ensures printed { OnOk result
@@ -222,7 +228,7 @@ impl Check {
     {
         let fault = self.at_end();
         let verdict = stop(fault.line, Refused::Invalid(fault.reason), out)?;
-        Ok(Checked::Stopped(verdict))
+        Ok(Checked::stopped(verdict))
     }
 }
 
@@ -239,7 +245,11 @@ fn has_form(reason: Reason) -> bool
 /// Refuses a record that is one too many.
 #[cold]
 #[inline(never)]
-fn many(line: u64, out: &mut Vec<u8>, end: &mut Option<Checked>) -> Result<(), NoMemory>
+fn many<'a, F: Feeding>(
+    line: u64,
+    out: &mut Vec<u8>,
+    end: &mut Option<Checked<'a, F>>,
+) -> Result<(), NoMemory>
     ensures printed { OnOk result (out.new.items ≡ out.old.items ++ (too_many line).text) }
     ensures ends { OnOk result (end.new ≡ Some (too_many line).end) }
     ensures err { OnErr result (out.new.items ≡ out.old.items) }
@@ -250,17 +260,17 @@ fn many(line: u64, out: &mut Vec<u8>, end: &mut Option<Checked>) -> Result<(), N
 /// Appends the line of a refusal, which ends the check.
 #[cold]
 #[inline(never)]
-fn stopped(
+fn stopped<'a, F: Feeding>(
     line: u64,
     why: Refused,
     out: &mut Vec<u8>,
-    end: &mut Option<Checked>,
+    end: &mut Option<Checked<'a, F>>,
 ) -> Result<(), NoMemory>
     ensures printed { OnOk result (out.new.items ≡ out.old.items ++ refused_text line why) }
-    ensures ends { OnOk result (end.new ≡ Some (Checked.Stopped (Verdict.Stopped line why))) }
+    ensures ends { OnOk result (end.new ≡ Some (Stopped (Verdict.Stopped line why))) }
     ensures err { OnErr result (out.new.items ≡ out.old.items) }
 {
     let verdict = stop(line, why, out)?;
-    *end = Some(Checked::Stopped(verdict));
+    *end = Some(Checked::stopped(verdict));
     Ok(())
 }

@@ -30,7 +30,7 @@ ghost use Rattle.trace_runner.specs.Replay.{progress_after, replay, replay_run};
 ghost use Rattle.trace_runner.specs.Check.{check_after, check};
 ghost use Rattle.trace_runner.specs.Race.{RaceLeaves, AloneLeaves, check_run};
 ghost use Rattle.trace_runner.specs.Trace.{TraceRead};
-ghost use Rattle.trace_runner.specs.declared.check.Checked.TheVariants.{Whole};
+ghost use Rattle.trace_runner.specs.Checked.Checked.{Whole};
 ghost use Rattle.trace_runner.specs.WholeLines.{IsWholeLines};
 
 use crate::generate::generate;
@@ -53,10 +53,10 @@ use trace_loop::{MEMORY_FAULT, answer_lines, say};
 /// trace: by the line `end`, by a line that is refused, or by a line that is too long. Nothing is put
 /// after a put that failed.
 ///
-/// The job `race` reads and checks the whole trace first, and writes nothing but the line that is refused. Then each of
-/// its phases, which a save or a move ends, runs on one thread a processor, which `rt` starts; `gate` is called around
-/// each record. What a phase prints is put in the order of the processors: with one processor that is what the job
-/// `replay` prints.
+/// The job `race` reads and checks the whole trace, and writes nothing but the line that is refused. Each of its phases,
+/// which a save or a move ends, runs meanwhile on one thread a processor, which `rt` starts; `gate` is called around each
+/// record. What the phases print is put when the check is through, each in the order of the processors: with one processor
+/// that is what the job `replay` prints.
 ///
 /// # Statuses
 ///

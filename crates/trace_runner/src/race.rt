@@ -1,8 +1,18 @@
 //! The job `race`: a trace whose processors run on threads of their own.
-ghost use Rattle.std.specs.Prelude.{◌≡◌, ℕ, ◌-◌, List, Some, None, take, [], IfOk};
+ghost use Rattle.std.specs.Prelude.{◌≡◌, ℕ, ◌-◌, List, ◌⊎◌, Some, None, map, take, [], IfOk};
+ghost use Rattle.race_phase.specs.Parts.{id_of};
+ghost use Rattle.trace_loop.specs.Text.{memory_fault_text};
+ghost use Rattle.trace_runner.specs.Checked.Checked.{Whole};
+ghost use Rattle.trace_runner.specs.private.CheckEnd.{IsRace};
 ghost use Rattle.board_io.specs.Faults.{Rose};
-ghost use Rattle.trace_loop.specs.Outcome.{KeepsEnds};
-ghost use Rattle.trace_runner.specs.Check.{check_after, check};
+ghost use Rattle.trace_loop.specs.Outcome.{KeepsEnds, Leaves};
+ghost use Rattle.trace_runner.specs.Check.{
+  check_after,
+  check,
+  check_answer,
+  check_closing,
+  unchecked,
+};
 ghost use Rattle.trace_runner.specs.FileText.{file_text};
 ghost use Rattle.trace_runner.specs.Race.{
   RacePrints,
@@ -11,26 +21,25 @@ ghost use Rattle.trace_runner.specs.Race.{
   AloneLeaves,
   check_run,
 };
-ghost use Rattle.trace_runner.specs.Replay.{replay};
-ghost use Rattle.trace_runner.specs.Said.{PutsOnly, SaidAtMost};
+ghost use Rattle.trace_runner.specs.Replay.{replay, at_start};
+ghost use Rattle.trace_runner.specs.Said.{PutsOnly, Said, SaidAtMost};
 ghost use Rattle.trace_runner.specs.Trace.{TraceRead};
 ghost use Rattle.trace_runner.specs.Status.{verdict_status};
 
-use crate::check::Checked;
 use crate::checker::Checker;
 use crate::replay::end;
 use crate::status::{Status, verdict_status};
-use crate::trace::Trace;
+use crate::trace::{CheckEnd, Checked, Trace};
 use board_io::{Gate, Sink, Source};
-use clk_units::NoMemory;
-use race_phase::{Ran, Text, run_race};
+use race_phase::{Feed, Feeding, Halt, Ran, Row, Text, run_race};
 use std::alloc::Global;
+use std::marker::Brand;
 use std::sync::Wait;
-use std::thread::Threads;
+use std::thread::{Threads, join_mut};
 use trace_loop::{Ended, MEMORY_FAULT, answer_lines, say, say_each};
 
-/// Reads a trace whole and checks it in file order, then runs each of its phases by one thread a processor, and writes
-/// what they answer. A line that is refused is written alone. A trace of one processor, of which no line is refused, prints
+/// Reads a trace and checks it in file order, while each of its phases runs by one thread a processor; then it writes what
+/// they answer. A line that is refused is written alone. A trace of one processor, of which no line is refused, prints
 /// what its replay prints.
 pub(crate) fn race<R: Threads + Wait + Sync, S: Source, K: Sink, G: Gate + Sync>(
     rt: &R,
@@ -44,9 +53,52 @@ pub(crate) fn race<R: Threads + Wait + Sync, S: Source, K: Sink, G: Gate + Sync>
         → RaceLeaves (check_run shows_state input (S.input source.old)
         (S.input source.new))
         result (K.output sink.old).contents (K.output sink.new).contents
+        (Rose (K.output sink.old).faults (K.output sink.new).faults)
+        ⊎ (Said Status.NoMemory result (K.output sink.old).contents (K.output sink.new).contents
+        memory_fault_text (Rose (K.output sink.old).faults (K.output sink.new).faults)
+        × (source.new ≡ source.old)) }
+    ensures alone { (input : List ℕ) → (S.input source.old).remaining ≡ Some input
+        → (trace : TraceRead) → (check shows_state input).end ≡ Whole trace
+        → trace.opening.cpus ≡ 1
+        → AloneLeaves (check_run shows_state input (S.input source.old)
+        (S.input source.new))
+        (replay shows_state input) result (K.output sink.old).contents (K.output sink.new).contents
+        (Rose (K.output sink.old).faults (K.output sink.new).faults)
+        ⊎ (Said Status.NoMemory result (K.output sink.old).contents (K.output sink.new).contents
+        memory_fault_text (Rose (K.output sink.old).faults (K.output sink.new).faults)
+        × (source.new ≡ source.old)) }
+    ensures stopped { (input : List ℕ) → (S.input source.old).remaining ≡ Some input
+        → ((check_after shows_state
+        (take ((S.input source.new).before - (S.input source.old).given) input)).end ≡ None)
+        ⊎ (source.new ≡ source.old) }
+    ensures ends { KeepsEnds Status.SourceFault Status.SinkFault result (S.input source.old)
+        (S.input source.new) (K.output sink.old) (K.output sink.new) }
+{
+    match Row::new(alloc) {
+        Ok(row) => race_in::<Brand, R, S, K, G>(row, rt, alloc, gate, shows_state, source, sink),
+        Err(_) => say(sink, MEMORY_FAULT, Status::NoMemory, Status::SinkFault),
+    }
+}
+
+/// The same in the places of a row.
+fn race_in<F: Feeding + Send + Sync, R: Threads + Wait + Sync, S: Source, K: Sink, G: Gate + Sync>(
+    row: Row,
+    rt: &R,
+    alloc: Global,
+    gate: &G,
+    shows_state: bool,
+    source: &mut S,
+    sink: &mut K,
+) -> Status
+    requires first { row.opening.id ≡ F.opening }
+    requires row { map id_of row.pieces.items ≡ F.pieces }
+    ensures leaves { (input : List ℕ) → (S.input source.old).remaining ≡ Some input
+        → RaceLeaves (check_run shows_state input (S.input source.old)
+        (S.input source.new))
+        result (K.output sink.old).contents (K.output sink.new).contents
         (Rose (K.output sink.old).faults (K.output sink.new).faults) }
     ensures alone { (input : List ℕ) → (S.input source.old).remaining ≡ Some input
-        → (trace : TraceRead) → (check shows_state input).end ≡ Checked.Whole trace
+        → (trace : TraceRead) → (check shows_state input).end ≡ Whole trace
         → trace.opening.cpus ≡ 1
         → AloneLeaves (check_run shows_state input (S.input source.old)
         (S.input source.new))
@@ -58,55 +110,102 @@ pub(crate) fn race<R: Threads + Wait + Sync, S: Source, K: Sink, G: Gate + Sync>
     ensures ends { KeepsEnds Status.SourceFault Status.SinkFault result (S.input source.old)
         (S.input source.new) (K.output sink.old) (K.output sink.new) }
 {
-    let mut check = Checker::new(alloc, shows_state);
-    match answer_lines(alloc, &mut check, source, sink) {
-        Ended::By(Checked::Whole(trace)) => write(rt, alloc, gate, &trace, sink),
-        Ended::By(Checked::Stopped(verdict)) => verdict_status(verdict),
+    let feed = Feed::<F>::new(row);
+    let feed = &feed;
+    let (ran, ended) = run_and_check(rt, alloc, gate, feed, shows_state, source, sink);
+    match ended {
+        Ended::By(checked) => match checked.into_end() {
+            CheckEnd::Whole(trace) => write(ran, alloc, &trace, sink),
+            CheckEnd::Stopped(verdict) => verdict_status(verdict),
+        },
         Ended::SourceFault => Status::SourceFault,
         Ended::SinkFault => Status::SinkFault,
         Ended::NoMemory => Status::NoMemory,
     }
 }
 
-/// Runs a trace that was checked, and writes what it prints.
-fn write<R: Threads + Wait + Sync, K: Sink, G: Gate + Sync>(
+/// Runs a trace while it is read and checked.
+fn run_and_check<
+    'a,
+    F: Feeding + Send + Sync,
+    R: Threads + Wait + Sync,
+    S: Source,
+    K: Sink,
+    G: Gate + Sync,
+>(
     rt: &R,
     alloc: Global,
     gate: &G,
-    trace: &Trace,
+    feed: &'a Feed<F>,
+    shows_state: bool,
+    source: &mut S,
+    sink: &mut K,
+) -> (Result<Ran<'a, F>, Halt>, Ended<Checked<'a, F>>)
+    ensures ran { IfOk result.0 IsRace }
+    ensures ended { Leaves check_answer check_closing (unchecked (at_start shows_state))
+        (S.input source.old) (S.input source.new) (K.output sink.old) (K.output sink.new) result.1 }
+{
+    let mut run = move || -> Result<Ran<'_, F>, Halt> { run_race(rt, alloc, gate, feed) };
+    let mut check = || -> Ended<Checked<'_, F>> { read(alloc, feed, shows_state, source, sink) };
+    join_mut(rt, &mut run, &mut check)
+}
+
+/// Reads and checks a trace, which is put into a feed. Then what waits for more of it stops.
+fn read<'a, F: Feeding, S: Source, K: Sink>(
+    alloc: Global,
+    feed: &'a Feed<F>,
+    shows_state: bool,
+    source: &mut S,
+    sink: &mut K,
+) -> Ended<Checked<'a, F>>
+    ensures { Leaves check_answer check_closing (unchecked (at_start shows_state))
+        (S.input source.old) (S.input source.new) (K.output sink.old) (K.output sink.new) result }
+{
+    let mut check = Checker::new(alloc, feed, shows_state);
+    let ended = answer_lines(alloc, &mut check, source, sink);
+    check.close_feed();
+    ended
+}
+
+/// Writes what a trace prints that was checked, where it was run.
+fn write<'a, F: Feeding, K: Sink>(
+    ran: Result<Ran<'a, F>, Halt>,
+    alloc: Global,
+    trace: &Trace<'a, F>,
     sink: &mut K,
 ) -> Status
-    ensures said { CheckedLeaves (Checked.Whole trace.now) [] result (K.output sink.old).contents
+    requires ran { IfOk ran IsRace }
+    ensures said { CheckedLeaves (Whole trace.now) [] result (K.output sink.old).contents
         (K.output sink.new).contents (Rose (K.output sink.old).faults (K.output sink.new).faults) }
     ensures alone { trace.now.opening.cpus ≡ 1 → SaidAtMost Status.Ok result
         (K.output sink.old).contents (K.output sink.new).contents (file_text trace.now)
         (Rose (K.output sink.old).faults (K.output sink.new).faults) }
     ensures puts { PutsOnly result (K.output sink.old) (K.output sink.new) }
 {
-    let _ = &trace.phases;
-    match text_of(rt, alloc, gate, trace) {
+    let _ = &trace.written;
+    match text_of(ran, alloc, trace) {
         Ok(text) => say_each(sink, text.pieces(), Status::Ok, Status::SinkFault),
-        Err(NoMemory) => say(sink, MEMORY_FAULT, Status::NoMemory, Status::SinkFault),
+        Err(_) => say(sink, MEMORY_FAULT, Status::NoMemory, Status::SinkFault),
     }
 }
 
-/// What a trace prints that was checked.
-fn text_of<R: Threads + Wait + Sync, G: Gate + Sync>(
-    rt: &R,
+/// What a trace prints that was checked, where it was run.
+fn text_of<'a, F: Feeding>(
+    ran: Result<Ran<'a, F>, Halt>,
     alloc: Global,
-    gate: &G,
-    trace: &Trace,
-) -> Result<Text, NoMemory>
+    trace: &Trace<'a, F>,
+) -> Result<Text, Halt>
+    requires ran { IfOk ran IsRace }
     ensures { IfOk result (λ text. RacePrints trace.now text) }
 {
-    let Ran { state, mut text } = run_race(
-        rt,
-        alloc,
-        gate,
-        *trace.opening,
-        &trace.deliveries,
-        &trace.phases,
-    )?;
+    let Ran {
+        state,
+        mut text,
+        trace: run,
+    } = ran?;
+    if !run.agrees(&trace.written) {
+        return Err(Halt::Closed);
+    }
     let mut last = Vec::new(alloc);
     end(&*state, trace.shows_state, &mut last)?;
     text.append(last)?;

@@ -94,8 +94,8 @@ clockboard race: answers a trace with each processor on a thread of its own\n\
 \n\
 usage: clockboard race [--state] < TRACE\n\
 \n\
-The trace, of any of the formats 1 to 5, is read whole and checked first, up\n\
-to 200000 records; the first line that is refused is printed alone. Then each\n\
+The trace, of any of the formats 1 to 5, is read whole and checked, up to\n\
+200000 records; the first line that is refused is printed alone. Meanwhile each\n\
 phase runs, up to a save, a move or the end: a processor's records are\n\
 answered in their order, and nothing orders those of different processors.\n\
 What a phase prints is the lines of processor 0, then those of processor 1,\n\

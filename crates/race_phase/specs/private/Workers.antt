@@ -21,7 +21,6 @@ use Rattle.std.specs.Prelude.{
   IfOk,
   OnOk,
   OnErr,
-  slice_index_or,
 }
 use Rattle.std.specs.List.{filter_map}
 use Rattle.race_phase.specs.declared.deliveries.Deliveries.{Deliveries}
@@ -158,13 +157,6 @@ pub record AllButLast (s : BoardParts) (ds : Deliveries) (n : ℕ) (rs : List Re
   pub whole : rs ≡ done ++ waiting
   pub made : AllMade s ds n done text (mine p)
   pub tried : AllTried s.cpus (mine p) p.misses
-
--- each call that ended well has done the work of its place
-abbrev pub AllGiven : {A E : Type 0} → List (Result A E) → (A → PassKnown) → (A → List ℕ)
-    → BoardParts → Deliveries → List Record → Type 0
-AllGiven {A} {E} xs pass text s ds rs =
-    (i : ℕ) (d : Result A E) → i < length xs
-    → IfOk (slice_index_or xs i d) (λ w. HasWorked s ds rs i (pass w) (text w))
 
 -- the passes from n on, and what they answered, one after another
 abbrev pub AllWorked : BoardParts → Deliveries → List Record → ℕ → List PassKnown

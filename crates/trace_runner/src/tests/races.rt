@@ -177,3 +177,37 @@ fn a_race_of_two_processors(rt: HostRuntime) -> Result<(), Fail> {
     assert!(rt; told == texts[0] || told == texts[1] || told == texts[2]);
     Ok(())
 }
+
+/// A trace of several pieces, whose phases end within them. With one processor it prints what its replay prints.
+#[test]
+fn a_race_of_several_pieces(rt: HostRuntime) -> Result<(), Fail> {
+    let mut trace = Vec::from_slice(rt.alloc(), b"clockboard 1\nbegin\n")?;
+    for _ in 0..3 {
+        for _ in 0..3_000 {
+            trace.extend_from_slice(b"0 0 step\n")?;
+        }
+        trace.extend_from_slice(b"0 0 save\n")?;
+    }
+    trace.extend_from_slice(b"end\n")?;
+    let (status, text) = told(&rt, &["replay"], &trace, &WELL)?;
+    assert_eq!(rt; status, Status::Ok);
+    expect(&rt, &["race"], &trace, &WELL, Status::Ok, &text)?;
+    Ok(())
+}
+
+/// Two processors with 3,000 accesses each: every number is told once, so the text is as long as a replay's, and what it ends
+/// with is the same.
+#[test]
+fn a_race_of_two_processors_in_several_pieces(rt: HostRuntime) -> Result<(), Fail> {
+    let mut trace = Vec::from_slice(rt.alloc(), b"clockboard 1\ncpus 2\nbegin\n")?;
+    for _ in 0..3_000 {
+        trace.extend_from_slice(b"0 0 step\n1 0 step\n")?;
+    }
+    trace.extend_from_slice(b"end\n")?;
+    let (_, replayed) = told(&rt, &["replay"], &trace, &WELL)?;
+    let (status, text) = told(&rt, &["race"], &trace, &WELL)?;
+    assert_eq!(rt; status, Status::Ok);
+    assert_eq!(rt; text.len(), replayed.len());
+    assert!(rt; text.ends_with(b"final 0 6000 0 -\n"));
+    Ok(())
+}

@@ -1,7 +1,7 @@
-use Rattle.std.proofs.Common.{◌≡◌, ◌+◌, ℕ, ap, sym, subst, IfOk, List, ◌∷◌, [], length, arith, length-append}
+use Rattle.std.proofs.Common.{◌≡◌, ◌<◌, ℕ, ap, sym, subst, IfOk, List, ◌∷◌, [], length, arith, length-append}
 use Rattle.shared_board.specs.declared.known.PassKnown.{PassKnown}
-use Rattle.race_phase.specs.private.Workers.{AllWorked, HasWorked}
-use Rattle.race_phase.proofs.Workers.{worked-snoc, given_front, given_last}
+use Rattle.race_phase.specs.private.Feed.{GatheredAll, HasRun}
+use Rattle.race_phase.proofs.Gathered.{gathered_more, ran_front, ran_last}
 use Rattle.race_phase.proofs.phase.gather.Goals as goal
 
 pub loop-result-preserved : goal.loop-result-preserved
@@ -9,21 +9,24 @@ loop-result-preserved g c =
     let inv = c.loop-result.invariant in
     let ys = c.loop-result.yielded in
     let st = g.N.Name.state in
-    let w = c.in_ok-worked.worked in
+    let wk = c.in_ok-worked.worked in
+    let x = c.in-Some.result in
+    let ns = c.loop-result.passes.items in
+    let out = c.loop-result.text in
     let pushed = c.in-Ok.ensures.items in
     let more = c.in_ok-append.ensures.ok in
-    let same : length ys ≡ 0 + length c.loop-result.passes.items = let k = inv.count in omega arith in record {
-      count =
-          let a = length-append ys (c.in-Some.result ∷ []) in
-          let b = length-append c.loop-result.passes.items (w.pass ∷ []) in
-          let d = ap length pushed in
-          let k = inv.count in omega arith;
-      all = λ ds rs given.
-          let front = given_front st ds ys c.in-Some.result (λ w. w.pass) (λ w. w.text.items) rs given in
-          let last = subst (λ r. IfOk r (λ w. HasWorked st ds rs (length ys) w.pass w.text.items)) c.in_ok-worked.was
-          (given_last st ds ys c.in-Some.result (λ w. w.pass) (λ w. w.text.items) rs given) in
-          let here : HasWorked st ds rs (0 + length c.loop-result.passes.items) w.pass w.text.items =
-          subst (λ (k : ℕ). HasWorked st ds rs k w.pass w.text.items) same last in
-          subst (λ (z : List PassKnown × List ℕ). AllWorked st ds rs 0 z.0 z.1) (λ k. (sym pushed k, sym more k))
-          (worked-snoc st ds rs 0 c.loop-result.passes.items c.loop-result.text w.pass w.text.items (inv.all ds rs front) here);
+    let long = ap (λ (ms : List PassKnown). length ms) pushed in
+    let last = length-append ns (wk.pass ∷ []) in record {
+      count = (let a = length-append ys (x ∷ []) in let k = inv.count in omega arith);
+      none = λ none. absurd (omega arith);
+      all = λ ds given some.
+          let front = ran_front st ds ys x given in
+          let ran : HasRun st ds wk.taken.items wk.end (length ys) wk.pass wk.text.items =
+          subst (λ r. IfOk r (λ w. HasRun st ds w.taken.items w.end (length ys) w.pass w.text.items)) c.in_ok-worked.was (ran_last st ds ys x given) in
+          let told = rw c.if-not-is_same.false at c.is_same.ensures in
+          let same : 0 < length ns → c.loop-result.taken.items ≡ wk.taken.items =
+          λ some. told (let n = c.len.ensures in let m = c.loop-result.passes.ok.0 in omega (arith, n, m, some)) in
+          subst (λ (z : List PassKnown × List ℕ). GatheredAll st ds wk.taken.items wk.end z.0 z.1) (λ k. (sym pushed k, sym more k))
+          (gathered_more st ds c.loop-result.taken.items wk.taken.items c.loop-result.end wk.end ns out wk.pass wk.text.items (length ys)
+          inv.none same (inv.all ds front) ran (sym inv.count));
     }

@@ -1,12 +1,12 @@
-use Rattle.std.proofs.Common.{◌≡◌, length, List}
+use Rattle.std.proofs.Common.{◌≡◌, ◌<◌, [], length}
 use Rattle.race_phase.specs.declared.deliveries.Deliveries.{Deliveries}
-use Rattle.race_phase.specs.declared.records.Record.{Record}
-use Rattle.race_phase.specs.private.Workers.{AllWorked, AllGiven}
+use Rattle.race_phase.specs.private.Feed.{AllRan, GatheredAll}
 use Rattle.race_phase.proofs.phase.gather.Given as goal
 
 abbrev pub invariant-loop-result : goal.invariant-loop-result
 invariant-loop-result g l = record {
   count : length l.passes.items ≡ length l.yielded;
-  all : (ds : Deliveries) (rs : List Record) → AllGiven l.yielded (λ w. w.pass) (λ w. w.text.items) g.N.Name.state ds rs
-      → AllWorked g.N.Name.state ds rs 0 l.passes.items l.text;
+  none : length l.passes.items ≡ 0 → l.text ≡ [];
+  all : (ds : Deliveries) → AllRan l.yielded g.N.Name.state ds → 0 < length l.passes.items
+      → GatheredAll g.N.Name.state ds l.taken.items l.end l.passes.items l.text;
 }

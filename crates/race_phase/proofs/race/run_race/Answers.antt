@@ -1,50 +1,62 @@
-use Rattle.std.proofs.Common.{◌≡◌, ◌++◌, [], ◌∷◌, List, ap, sym, ◌∙◌, subst, refl, arith, None, All, append_assoc, append-nil, length}
-use Rattle.race_phase.specs.declared.phases.Phase.{Phase}
+use Rattle.std.proofs.Common.{◌≡◌, [], List, ℕ, ap, sym, ◌∙◌, subst, Option, None}
+use Rattle.std.specs.Prelude.{IfSome}
 use Rattle.board_types.specs.declared.parts.BoardParts.{BoardParts}
-use Rattle.race_phase.specs.private.Ran.{AreAlike}
-use Rattle.race_phase.specs.Phases.{IsPhase, PhaseEnded, trace_fault, phase_fault, after_phase, race_text}
-use Rattle.race_phase.proofs.Same.{alike_size, size_phase, phases_rest, same_trace_fault}
-use Rattle.race_phase.proofs.Taken.{or_none}
+use Rattle.race_phase.specs.declared.opening.Opening.{Opening}
+use Rattle.race_phase.specs.declared.piece.Part.{Part}
+use Rattle.race_phase.specs.Parts.{phases_in, open_in}
+use Rattle.race_phase.specs.Phases.{race_text, trace_fault}
+use Rattle.race_phase.specs.private.Feed.{PhaseHasEnded}
+use Rattle.race_phase.proofs.Going.{IsGoing, going_end, going_more, going_start, ended_left}
+use Rattle.race_phase.proofs.race.run_race.Given as given
 use Rattle.race_phase.proofs.race.run_race.Goals as goal
+use Rattle.race_phase.proofs.race.run_race.Goals.{In_ok-join_parts}
 
-pub next-requires-clause-fitting : goal.next-requires-clause-fitting
-next-requires-clause-fitting g c κs within =
-    let now = c.loop-phase.now.value in
-    let split = c.in-Some.ensures.cases.0 in
-    let fits = subst (λ (l : List Phase). All (IsPhase now.cpus now.format) l) split c.loop-phase.invariant.fits in
-    subst (λ (b : BoardParts). IsPhase b.cpus b.format c.in-Some.phase.now) (sym c.deref.ensures) (fits 0 c.in-Some.phase.now (omega arith))
+pub loop-phase-init : goal.loop-phase-init
+loop-phase-init g c =
+    let o = c.in-Some.opening in record {
+      shown = sym c.opening.ensures ∙ c.in-Some.is;
+      left = ap (open_in []) c.new-taken.ensures.items;
+      going = subst (λ (z : BoardParts × List Part × List ℕ). IsGoing o.deliveries o.state z.0 (phases_in [] z.1) z.2)
+          (λ i. (sym c.in-Ok.ensures.ok i, sym c.new-taken.ensures.items i, sym c.new-text.ensures i)) (going_start o.deliveries o.state);
+    }
+
+ended : (g : given.Over) (c : In_ok-join_parts g)
+    → PhaseHasEnded c.loop-phase.now.value c.in-Some.opening.deliveries c.in_ok-ended.ended.taken.items c.in_ok-ended.ended.end c.in_ok-ended.ended.board.value
+    c.loop-phase.text c.run_and_end.new.text
+ended g c =
+    let w = c.in_ok-ended.ended in
+    subst (λ (b : BoardParts). PhaseHasEnded b c.in-Some.opening.deliveries w.taken.items w.end w.board.value c.loop-phase.text c.run_and_end.new.text) c.deref.ensures
+    c.in_ok-ended.ensures
+
+-- the race has come to the board that the phase left
+going : (g : given.Over) (c : In_ok-join_parts g)
+    → IsGoing c.in-Some.opening.deliveries c.in-Some.opening.state c.in_ok-ended.ended.board.value (phases_in [] c.join_parts.new.taken.items) c.run_and_end.new.text
+going g c =
+    let o = c.in-Some.opening in
+    let w = c.in_ok-ended.ended in
+    let inv = c.loop-phase.invariant in
+    subst (λ (ts : List Part). IsGoing o.deliveries o.state w.board.value (phases_in [] ts) c.run_and_end.new.text) (sym c.in_ok-join_parts.ensures)
+    (going_more o.deliveries o.state c.loop-phase.now.value w.board.value c.loop-phase.taken.items w.taken.items w.end c.loop-phase.text c.run_and_end.new.text
+    inv.left (ended g c) inv.going)
 
 pub loop-phase-preserved : goal.loop-phase-preserved
 loop-phase-preserved g c =
+    let o = c.in-Some.opening in
+    let w = c.in_ok-ended.ended in
     let inv = c.loop-phase.invariant in
-    let split = c.in-Some.ensures.cases.0 in
-    let now = c.loop-phase.now.value in
-    let v = c.in-Some.phase.now in
-    let vs = c.in-Some.tail.now in
-    let e = c.in_ok-now.ensures in
-    let ds = c.args.deliveries.now in
-    let ended = subst (λ (b : BoardParts). PhaseEnded b ds v c.in_ok-now.now.value e.0) c.deref.ensures e.2 in
-    let alike = subst (λ (b : BoardParts). AreAlike (after_phase b v) c.in_ok-now.now.value) c.deref.ensures e.3 in
-    let free = subst (λ (l : List Phase). trace_fault now l ≡ None) split inv.free in
-    let fits = subst (λ (l : List Phase). All (IsPhase now.cpus now.format) l) split inv.fits in record {
-      fits = phases_rest now c.in_ok-now.now.value v vs (alike_size (after_phase now v) c.in_ok-now.now.value alike ∙ size_phase now v) fits;
-      free = sym (same_trace_fault (after_phase now v) c.in_ok-now.now.value vs alike (phases_rest now (after_phase now v) v vs (size_phase now v) fits))
-          ∙ (or_none (phase_fault now v) (trace_fault (after_phase now v) vs) free).1;
-      told = λ st out x.
-          subst (race_text ds c.args.state c.args.phases.now st) (sym (append_assoc c.loop-phase.text e.0 out) ∙ ap (λ l. l ++ out) (sym e.1))
-          (inv.told st (e.0 ++ out) (subst (λ (l : List Phase). race_text ds now l st (e.0 ++ out)) (sym split)
-          (c.in_ok-now.now.value, e.0, out, refl, ended, x)));
+    let at = (goal.at.loop-phase-preserved g c).In_ok-join_parts in record {
+      shown = inv.shown;
+      left = subst (λ (ts : List Part). open_in [] ts ≡ []) (sym c.in_ok-join_parts.ensures)
+          (ended_left o.deliveries o.state c.loop-phase.now.value w.board.value c.loop-phase.taken.items w.taken.items w.end c.loop-phase.text
+          c.run_and_end.new.text inv.left (ended g at));
+      going = going g at;
     }
 
-none_left : (vs : List Phase) → length vs ≡ 0 → vs ≡ []
-none_left [] e = refl
-none_left (v ∷ vs) e = absurd (omega arith)
-
-pub returns : goal.returns
-returns g c =
-    let inv = c.loop-phase.invariant in
-    let now = c.loop-phase.now.value in
-    let ds = c.args.deliveries.now in
-    let none = none_left c.loop-phase.rest.now c.in_default-split_first.ensures.cases in
-    subst (race_text ds c.args.state c.args.phases.now now) (append-nil c.loop-phase.text)
-    (inv.told now [] (subst (λ (l : List Phase). race_text ds now l now []) (sym none) (refl, refl)))
+pub returns-then-eq : goal.returns-then-eq
+returns-then-eq g c =
+    let o = c.in-Some.opening in
+    let board = c.in_ok-ended.ended.board.value in
+    let all = c.join_parts.new.taken.items in
+    subst (λ (m : Option Opening). IfSome m (λ z. trace_fault z.state (phases_in [] all) ≡ None
+    → race_text z.deliveries z.state (phases_in [] all) board c.run_and_end.new.text)) (sym c.loop-phase.invariant.shown)
+    (going_end o.deliveries o.state board (phases_in [] all) c.run_and_end.new.text (going g (goal.at.returns-then-eq g c).In_ok-join_parts))

@@ -1,150 +1,94 @@
-use Rattle.std.proofs.Common.{arith, ◌≡◌, ◌∙◌, ◌+◌, ◌∷◌, [], ℕ, ◌++◌, ap, sym, subst, List, take, drop, All, length, ◌<◌, ◌≤◌, OnOk, OnErr, length-append}
-use Rattle.std.proofs.lemmas.List.Elements.{All-push}
-use Rattle.board_history.specs.History.{IsLegal}
-use Rattle.shared_board.specs.declared.known.PassKnown.{PassKnown}
-use Rattle.race_phase.specs.declared.batch.Place.{Place}
+use Rattle.std.proofs.Common.{arith, ◌≡◌, ◌∙◌, ◌+◌, ◌∷◌, [], ◌++◌, ℕ, ap, sym, subst, refl, List, length, ◌<◌, ◌^◌}
+use Rattle.std.proofs.lemmas.List.Elements.{All-nil}
+use Rattle.race_phase.specs.declared.piece.Part.{Part}
 use Rattle.race_phase.specs.declared.records.Record.{Record}
-use Rattle.trace_text.specs.declared.records.Call.TheVariants.{ReadPage}
-use Rattle.race_phase.specs.Calls.{IsFitting, records_of}
-use Rattle.race_phase.specs.private.Workers.{AllButLast, HasHalted, HasPrinted, HasWorked}
-use Rattle.race_phase.proofs.Workers.{cpu_there, record_cpu, read_fits, next_skipped, next_read, put_back, waits_printed, not_ok, batch_halted, batch_last}
+use Rattle.race_phase.specs.Calls.{IsFitting}
+use Rattle.race_phase.specs.Parts.{IsPart, part_at}
+use Rattle.race_phase.specs.private.Feed.{HasRun}
+use Rattle.race_phase.specs.private.Working.{IsWorking}
+use Rattle.race_phase.proofs.Runs.{HasTaken, taken_last, taken_more, taken_room}
+use Rattle.race_phase.proofs.work.work.Given as given
 use Rattle.race_phase.proofs.work.work.Goals as goal
-use Rattle.race_phase.proofs.work.work.Goals.{
-  then-from-cpu+in-Ok+then-len-at_once+in_ok-print_all+in-Ok-2,
-  then-from-cpu+in-Ok+else-len-at_once,
-  else-from-cpu,
-}
+use Rattle.race_phase.proofs.work.work.Goals.{then-done-eq0, else-done-eq0, In_ok-take, In-Ok}
 
-pub print_all-requires-clause-fitting : goal.print_all-requires-clause-fitting
-print_all-requires-clause-fitting g c =
-    let s = g.N.Name.state in
-    let rs = c.args.records.now in
-    subst (λ (l : List Record). All (IsFitting s.cpus s.format) l) (sym (c.deref.ensures.value ∙ c.in-Ok.ensures.items))
-    (All-push (IsFitting s.cpus s.format) c.loop-place.batch.items _ c.loop-place.invariant.fitting
-    (read_fits s.cpus s.format rs c.loop-place.place c.record.result c.record.ensures c.requires.fitting))
-
-pub returns-in_default-2 : goal.returns-in_default-2
-returns-in_default-2 g c =
+pub loop-done-init : goal.loop-done-init
+loop-done-init g c =
     let s = g.N.Name.state in
     let ds = c.args.worker.now.deliveries.now in
-    let rs = c.args.records.now in
+    let w = c.in_ok-working.working in
     let n = c.number-cpu.result in
-    let i = c.loop-place.place in
-    let inv = c.loop-place.invariant in
-    let p = c.loop-place.pass in
-    let q = c.print_all.new.pass in
-    let ys = c.print_all.new.out.items in
-    let halted = not_ok c.in_ok-print_all.field-0 c.in_default-2.not-Ok c.in_ok-print_all.ensures.err in
-    let there = subst (λ ws. HasHalted s ws p q) (c.deref.ensures.value ∙ c.in-Ok.ensures.items) halted in
-    let here = record_cpu rs i _ n _ _ c.record.ensures c.cpu.ensures c.from.ensures c.if-from-cpu.true in
-    let waits = next_read s ds n i rs c.record.result c.loop-place.batch.items c.loop-place.text.items p c.record.ensures here inv.made in
-    subst (λ k. HasWorked s ds rs k q ys) c.number-cpu.ensures.number (batch_halted s ds n (i + 1) rs _ c.loop-place.text.items p q inv.number waits ys there)
+    let none = c.in_ok-working.ensures.none in
+    subst (λ (ts : List Part). HasTaken s ds n 0 ts w) (sym c.new-taken.ensures.items) (record {
+      ready = c.in_ok-working.ensures.ready;
+      few = (let a = none.0 in let b = ap (λ (rs : List Record). length rs) none.1 in omega arith);
+      left = refl;
+      fits = All-nil (IsFitting s.cpus s.format);
+      short = omega arith;
+      worked = subst (λ (k : ℕ). IsWorking s ds k [] w) (sym c.number-cpu.ensures.number) (c.in_ok-working.ensures.working ds);
+    })
 
-pub loop-place-preserved : goal.loop-place-preserved
-loop-place-preserved g c =
-    let inv = c.loop-place.invariant in
-    let n = c.number-cpu.result in
+-- before it takes the part
+began : (g : given.Over) (c : In_ok-take g)
+    → HasTaken g.N.Name.state c.args.worker.now.deliveries.now c.number-cpu.result c.loop-done.done c.loop-done.taken.items c.if-done-eq0.working
+began g c =
     let s = g.N.Name.state in
     let ds = c.args.worker.now.deliveries.now in
-    let i = c.loop-place.place in
-    let rs = c.args.records.now in
-    let p = c.loop-place.pass in
-    let below = subst (λ (k : ℕ). i < k) c.len-place-end.ensures c.loop-place-test.true in
-    elim c.if-from-cpu.branch [
-      | then-from-cpu+in-Ok+then-len-at_once+in_ok-print_all+in-Ok-2 w ↦
-          let q = w.print_all.new.pass in
-          let text = c.loop-place.text.items in
-          let here = record_cpu rs i _ n _ _ w.record.ensures c.cpu.ensures c.from.ensures w.if-from-cpu.true in
-          let waits = next_read s ds n i rs w.record.result c.loop-place.batch.items text p w.record.ensures here inv.made in
-          let new = w.print_all.new.places in
-          let old = c.loop-place.places.items in
-          let same : length new ≡ length old = w.print_all.auto.places ∙ ap (λ (l : List Place). length l) w.deref_mut.ensures.value in
-          let fits = c.loop-place.places.ok.0 in
-          let back : take c.loop-place.places.len (new ++ drop (length new) old) ≡ new = put_back new old c.loop-place.places.len same (omega arith) in
-          let items = w.in-Ok.ensures.items in
-          let told = rw w.in-Ok-2.is at w.in_ok-print_all.ensures.ok in
-          let legal = rw w.in-Ok-2.is at w.in_ok-print_all.ensures.legal in
-          let printed = subst (λ ws. HasPrinted s ds ws text w.print_all.new.out.items p q) (w.deref.ensures.value ∙ items) told in
-          let made = waits_printed s ds n (records_of n (take (i + 1) rs)) _ text w.print_all.new.out.items p q inv.number waits printed in
-          let clear = ap (λ v. v.items) w.batch-is ∙ w.clear.ensures.items in
-          record {
-            number = ap (λ z. z.number) w.pass-is ∙ (printed.2.number ∙ inv.number);
-            legal = subst (λ (z : PassKnown). IsLegal z.seen) (sym w.pass-is) legal;
-            places = ap (λ v. length v.items) w.places-is ∙ (ap (λ (l : List Place). length l) back ∙ (same ∙ inv.places));
-            few = subst (λ (v : List Record). length v < 16) (sym clear) (omega arith);
-            most = subst (λ (k : ℕ). k ≤ 16) (sym w.at_once-is) w.next-at_once-then-len-at_once.ensures.most;
-            index =
-                (let e : c.if-from-cpu.index ≡ c.loop-place.index + w.len-then-len-at_once.result = w.index-is in
-                let b : length c.if-from-cpu.batch.items ≡ 0 = ap (λ (v : List Record). length v) clear in
-                let z : w.len-then-len-at_once.result ≡ length w.push.new.self.items = w.len-then-len-at_once.ensures ∙ w.push.new.self.ok.0 in
-                let y : length w.push.new.self.items ≡ length c.loop-place.batch.items + 1 =
-                ap (λ (v : List Record). length v) items ∙ length-append c.loop-place.batch.items (_ ∷ []) in
-                let k : c.loop-place.index + length c.loop-place.batch.items ≤ i = inv.index in
-                omega (arith, e, b, z, y, k));
-            fitting = subst (λ (v : List Record). All (IsFitting s.cpus s.format) v) (sym clear) (λ k d less. absurd (omega (arith, less)));
-            made = subst (λ (z : PassKnown × List ℕ × List Record). AllButLast s ds n (records_of n (take (i + 1) rs)) z.2 z.1 z.0)
-                (λ k. (sym w.pass-is k, sym (ap (λ v. v.items) w.text-is) k, sym clear k)) made;
-          }
-      | then-from-cpu+in-Ok+else-len-at_once w ↦
-          let here = record_cpu rs i _ n _ _ w.record.ensures c.cpu.ensures c.from.ensures w.if-from-cpu.true in
-          let waits = next_read s ds n i rs w.record.result c.loop-place.batch.items c.loop-place.text.items p w.record.ensures here inv.made in
-          let items = ap (λ v. v.items) w.batch-is ∙ w.in-Ok.ensures.items in
-          let fit = All-push (IsFitting s.cpus s.format) c.loop-place.batch.items _ inv.fitting
-          (read_fits s.cpus s.format rs i w.record.result w.record.ensures c.requires.fitting) in
-          record {
-            number = ap (λ z. z.number) w.pass-is ∙ inv.number;
-            legal = subst (λ (z : PassKnown). IsLegal z.seen) (sym w.pass-is) inv.legal;
-            places = ap (λ v. length v.items) w.places-is ∙ inv.places;
-            few =
-                (let same = w.len.ensures ∙ (w.push.new.self.ok.0 ∙ sym (ap (λ v. length v.items) w.batch-is)) in
-                let less : length c.if-from-cpu.batch.items < c.loop-place.at_once = subst (λ (k : ℕ). k < c.loop-place.at_once) same w.if-len-at_once.false in
-                let most = inv.most in
-                omega (arith, less, most));
-            most = subst (λ (k : ℕ). k ≤ 16) (sym w.at_once-is) inv.most;
-            index =
-                (let e : c.if-from-cpu.index ≡ c.loop-place.index = w.index-is in
-                let y : length c.if-from-cpu.batch.items ≡ length c.loop-place.batch.items + 1 =
-                ap (λ (v : List Record). length v) items ∙ length-append c.loop-place.batch.items (_ ∷ []) in
-                let k : c.loop-place.index + length c.loop-place.batch.items ≤ i = inv.index in
-                omega (arith, e, y, k));
-            fitting = subst (λ (v : List Record). All (IsFitting s.cpus s.format) v) (sym items) fit;
-            made = subst (λ (z : PassKnown × List ℕ × List Record). AllButLast s ds n (records_of n (take (i + 1) rs)) z.2 z.1 z.0)
-                (λ k. (sym w.pass-is k, sym (ap (λ v. v.items) w.text-is) k, sym items k)) waits;
-          }
-      | else-from-cpu w ↦
-          let d : Record = record { line = 0; cpu = 0; h = 0; call = ReadPage 0 } in
-          let there = cpu_there rs i c.cpu.result d below c.cpu.ensures in
-          let waits = next_skipped s ds n i rs d c.loop-place.batch.items c.loop-place.text.items p below
-          (λ same. w.if-from-cpu.false (c.from.ensures ∙ there ∙ same)) inv.made in
-          record {
-            number = ap (λ z. z.number) w.pass-is ∙ inv.number;
-            legal = subst (λ (z : PassKnown). IsLegal z.seen) (sym w.pass-is) inv.legal;
-            places = ap (λ v. length v.items) w.places-is ∙ inv.places;
-            few = subst (λ (v : List Record). length v < 16) (sym (ap (λ v. v.items) w.batch-is)) inv.few;
-            most = subst (λ (k : ℕ). k ≤ 16) (sym w.at_once-is) inv.most;
-            index = (let e = w.index-is in let b = ap (λ v. length v.items) w.batch-is in let k = inv.index in omega arith);
-            fitting = subst (λ (v : List Record). All (IsFitting s.cpus s.format) v) (sym (ap (λ v. v.items) w.batch-is)) inv.fitting;
-            made = subst (λ (z : PassKnown × List ℕ × List Record). AllButLast s ds n (records_of n (take (i + 1) rs)) z.2 z.1 z.0)
-                (λ k. (sym w.pass-is k, sym (ap (λ v. v.items) w.text-is) k, sym (ap (λ v. v.items) w.batch-is) k)) waits;
-          }
+    let n = c.number-cpu.result in
+    let k = c.loop-done.done in
+    let ts = c.loop-done.taken.items in
+    elim c.if-done-eq0.branch [
+      | then-done-eq0 w ↦
+          subst (λ z. HasTaken s ds n k ts z) (sym w.working-is)
+          (taken_room s ds n k ts c.loop-done.working c.loop-done.invariant w.make_room.new.self w.make_room.ensures.rest w.make_room.ensures.text)
+      | else-done-eq0 w ↦ subst (λ z. HasTaken s ds n k ts z) (sym w.working-is) c.loop-done.invariant
     ]
 
-pub returns : goal.returns
-returns g c =
+fits : (g : given.Over) (c : In_ok-take g) → IsPart g.N.Name.state.cpus g.N.Name.state.format c.in_ok-part.part.now
+fits g c = subst (λ (z : ℕ × ℕ). IsPart z.0 z.1 c.in_ok-part.part.now) (λ i. (c.requires.cpus i, c.requires.format i)) c.in_ok-part.ensures.fits
+
+-- the part is put behind those that were taken
+items : (g : given.Over) (c : In-Ok g) → c.push.new.self.items ≡ c.loop-done.taken.items ++ c.in_ok-part.part.now ∷ []
+items g c =
+    let same : c.of.result ≡ c.in_ok-part.part.now =
+    c.of.ensures ∙ ap (λ q. part_at q c.loop-done.at.part) (sym c.in_ok-piece.ensures) ∙ c.in_ok-part.ensures.part in
+    c.in-Ok.ensures.items ∙ ap (λ (q : Part). c.loop-done.taken.items ++ q ∷ []) same
+
+pub loop-done-preserved : goal.loop-done-preserved
+loop-done-preserved g c =
     let s = g.N.Name.state in
     let ds = c.args.worker.now.deliveries.now in
-    let rs = c.args.records.now in
     let n = c.number-cpu.result in
-    let i = c.loop-place.place in
-    let inv = c.loop-place.invariant in
-    let p = c.loop-place.pass in
-    let q = c.print_all-2.new.pass in
-    let xs = c.loop-place.text.items in
-    let ys = c.print_all-2.new.out.items in
-    let told = c.in_ok-_halted._halted in
-    let there = c.deref-2.ensures.value in
-    let printed = subst (λ ws. OnOk told (HasPrinted s ds ws xs ys p q)) there c.in_ok-_halted.ensures.ok in
-    let halted = subst (λ ws. OnErr told (HasHalted s ws p q)) there c.in_ok-_halted.ensures.err in
-    subst (λ k. HasWorked s ds rs k q ys) c.number-cpu.ensures.number
-    (batch_last s ds n i rs c.loop-place.batch.items xs p q inv.number inv.made told ys
-    (subst (λ (k : ℕ). k ≤ i) c.len-place-end.ensures c.loop-place-test.false) printed halted)
+    let k = c.loop-done.done in
+    let at = goal.at.loop-done-preserved g c in
+    let e = c.in_ok-take.ensures in
+    subst (λ (ts : List Part). HasTaken s ds n (k + 1) ts c.take-in-loop-done.new.self) (sym (items g at.In-Ok))
+    (taken_more s ds n k c.loop-done.taken.items c.if-done-eq0.working (began g at.In_ok-take) c.in_ok-part.part.now (fits g at.In_ok-take)
+    c.take-in-loop-done.new.self e.done c.in_default-end.is e.ready e.few)
+
+pub answer-requires : goal.answer-requires
+answer-requires g c =
+    let old = (began g (goal.at.answer-requires g c).In_ok-take).few in
+    let e = c.in_ok-take.ensures in
+    let ready = e.ready in record {
+      places = ready.places;
+      most = (let few = ready.few in omega (arith, few));
+      small =
+          (let few = e.few in let most = c.in_ok-part.ensures.fits.few in let below = c.loop-done-test.true in
+          omega (arith, few, old, most, below));
+      fitting = ready.fitting;
+      legal = ready.legal;
+    }
+
+pub returns-in-Some : goal.returns-in-Some
+returns-in-Some g c =
+    let s = g.N.Name.state in
+    let ds = c.args.worker.now.deliveries.now in
+    let k = c.loop-done.done in
+    let at = goal.at.returns-in-Some g c in
+    let end = c.in-Some.end in
+    let y = c.answer.new.self in
+    let below : k < 2 ^ 20 = let l = c.loop-done-test.true in omega (arith, l) in
+    subst (λ (z : List Part × ℕ). HasRun s ds z.0 end z.1 y.pass y.text.items) (λ i. (sym (items g at.In-Ok) i, c.number-cpu.ensures.number i))
+    (taken_last s ds c.number-cpu.result k c.loop-done.taken.items c.if-done-eq0.working (began g at.In_ok-take) c.in_ok-part.part.now
+    (fits g at.In_ok-take) c.take-in-loop-done.new.self c.in_ok-take.ensures.done end y c.in-Some.is below c.in_ok-answer.ensures.done
+    c.in_ok-answer.ensures.none)

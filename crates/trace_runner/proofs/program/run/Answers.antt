@@ -57,17 +57,17 @@ unfolding memory_fault_text
 returns-in-Err-clause-said g c = λ saying is. inr c.say.ensures.said
 
 pub returns-in-Ok-Race-clause-race : goal.returns-in-Ok-Race-clause-race
-returns-in-Ok-Race-clause-race g c = by_race g c _ (λ input e. inl (c.race.ensures.leaves input e))
+returns-in-Ok-Race-clause-race g c = by_race g c _ c.race.ensures.leaves
 
 pub returns-in-Ok-Race-clause-race_stopped : goal.returns-in-Ok-Race-clause-race_stopped
-returns-in-Ok-Race-clause-race_stopped g c = by_race g c _ (λ input e. inl (c.race.ensures.stopped input e))
+returns-in-Ok-Race-clause-race_stopped g c = by_race g c _ c.race.ensures.stopped
 
 pub returns-in-Err-clause-race : goal.returns-in-Err-clause-race
 unfolding memory_fault_text
 returns-in-Err-clause-race g c = λ shows is input e. inr (c.say.ensures.said, refl)
 
 pub returns-in-Ok-Race-clause-race_alone : goal.returns-in-Ok-Race-clause-race_alone
-returns-in-Ok-Race-clause-race_alone g c = by_race g c _ (λ input e trace whole one. inl (c.race.ensures.alone input e trace whole one))
+returns-in-Ok-Race-clause-race_alone g c = by_race g c _ c.race.ensures.alone
 
 pub returns-in-Err-clause-race_alone : goal.returns-in-Err-clause-race_alone
 unfolding memory_fault_text

@@ -1,66 +1,15 @@
-use Rattle.std.proofs.Common.{inr, ap, ◌∙◌}
-use Rattle.trace_loop.specs.declared.ended.Ended.TheVariants.{By}
-use Rattle.trace_runner.specs.declared.check.Checked.{Checked}
-use Rattle.trace_runner.proofs.Races.{has_ended, has_gone_on, whole_left, alone_left, stopped_left, never_whole}
+use Rattle.std.proofs.Common.{refl, inl, inr}
+use Rattle.trace_loop.specs.Text.{memory_fault_text}
 use Rattle.trace_runner.proofs.race.race.Goals as goal
 
-pub returns-in-By-Whole-clause-leaves : goal.returns-in-By-Whole-clause-leaves
-returns-in-By-Whole-clause-leaves g c = λ input e.
-    whole_left (has_ended c.args.shows_state c.new-check.ensures c.answer_lines.ensures
-    (c.in-By-Whole.is ∙ ap (λ (x : Checked). By x) c.in-By-Whole.field-0-is) input e) c.write.result (g.K.Sink.output c.write.new.sink)
-    c.write.ensures.said
+pub returns-in-Ok-clause-alone : goal.returns-in-Ok-clause-alone
+returns-in-Ok-clause-alone g c = λ input e trace whole one. inl (c.race_in.ensures.alone input e trace whole one)
 
-pub returns-in-By-Whole-clause-alone : goal.returns-in-By-Whole-clause-alone
-returns-in-By-Whole-clause-alone g c = λ input e trace is one.
-    alone_left (has_ended c.args.shows_state c.new-check.ensures c.answer_lines.ensures
-    (c.in-By-Whole.is ∙ ap (λ (x : Checked). By x) c.in-By-Whole.field-0-is) input e) c.write.result (g.K.Sink.output c.write.new.sink) trace is one
-    c.write.ensures.alone
+-- there was no memory for a row
+pub returns-in-Err-clause-leaves : goal.returns-in-Err-clause-leaves
+unfolding memory_fault_text
+returns-in-Err-clause-leaves g c = λ input e. inr (c.say.ensures.said, refl)
 
-pub returns-in-By-Stopped-clause-leaves : goal.returns-in-By-Stopped-clause-leaves
-returns-in-By-Stopped-clause-leaves g c = λ input e.
-    stopped_left (has_ended c.args.shows_state c.new-check.ensures c.answer_lines.ensures
-    (c.in-By-Stopped.is ∙ ap (λ (x : Checked). By x) c.in-By-Stopped.field-0-is) input e) c.verdict_status.result c.verdict_status.ensures
-
-pub returns-in-By-Stopped-clause-alone : goal.returns-in-By-Stopped-clause-alone
-returns-in-By-Stopped-clause-alone g c = λ input e trace is one.
-    absurd (never_whole (has_ended c.args.shows_state c.new-check.ensures c.answer_lines.ensures
-    (c.in-By-Stopped.is ∙ ap (λ (x : Checked). By x) c.in-By-Stopped.field-0-is) input e) trace is)
-
-pub returns-in-SourceFault-clause-leaves : goal.returns-in-SourceFault-clause-leaves
-returns-in-SourceFault-clause-leaves g c = λ input e.
-    inr (has_ended c.args.shows_state c.new-check.ensures c.answer_lines.ensures c.in-SourceFault.is input e).outcome
-
-pub returns-in-SourceFault-clause-alone : goal.returns-in-SourceFault-clause-alone
-returns-in-SourceFault-clause-alone g c = λ input e trace is one.
-    inr (has_ended c.args.shows_state c.new-check.ensures c.answer_lines.ensures c.in-SourceFault.is input e).outcome
-
-pub returns-in-SinkFault-clause-leaves : goal.returns-in-SinkFault-clause-leaves
-returns-in-SinkFault-clause-leaves g c = λ input e.
-    inr (has_ended c.args.shows_state c.new-check.ensures c.answer_lines.ensures c.in-SinkFault.is input e).outcome
-
-pub returns-in-SinkFault-clause-alone : goal.returns-in-SinkFault-clause-alone
-returns-in-SinkFault-clause-alone g c = λ input e trace is one.
-    inr (has_ended c.args.shows_state c.new-check.ensures c.answer_lines.ensures c.in-SinkFault.is input e).outcome
-
-pub returns-clause-leaves : goal.returns-clause-leaves
-returns-clause-leaves g c = λ input e. inr (has_ended c.args.shows_state c.new-check.ensures c.answer_lines.ensures c.in-NoMemory.is input e).outcome
-
-pub returns-clause-alone : goal.returns-clause-alone
-returns-clause-alone g c = λ input e trace is one.
-    inr (has_ended c.args.shows_state c.new-check.ensures c.answer_lines.ensures c.in-NoMemory.is input e).outcome
-
--- however the check ended, it had gone on before the source was called last
-pub returns-in-By-Whole-clause-stopped : goal.returns-in-By-Whole-clause-stopped
-returns-in-By-Whole-clause-stopped g c = has_gone_on c.args.shows_state c.new-check.ensures c.answer_lines.ensures
-
-pub returns-in-By-Stopped-clause-stopped : goal.returns-in-By-Stopped-clause-stopped
-returns-in-By-Stopped-clause-stopped g c = has_gone_on c.args.shows_state c.new-check.ensures c.answer_lines.ensures
-
-pub returns-in-SourceFault-clause-stopped : goal.returns-in-SourceFault-clause-stopped
-returns-in-SourceFault-clause-stopped g c = has_gone_on c.args.shows_state c.new-check.ensures c.answer_lines.ensures
-
-pub returns-in-SinkFault-clause-stopped : goal.returns-in-SinkFault-clause-stopped
-returns-in-SinkFault-clause-stopped g c = has_gone_on c.args.shows_state c.new-check.ensures c.answer_lines.ensures
-
-pub returns-clause-stopped : goal.returns-clause-stopped
-returns-clause-stopped g c = has_gone_on c.args.shows_state c.new-check.ensures c.answer_lines.ensures
+pub returns-in-Err-clause-alone : goal.returns-in-Err-clause-alone
+unfolding memory_fault_text
+returns-in-Err-clause-alone g c = λ input e trace whole one. inr (c.say.ensures.said, refl)

@@ -1,4 +1,0 @@
-use Rattle.race_phase.proofs.race.next.Given as goal
-
-abbrev pub ghosts-run_phase : goal.ghosts-run_phase
-ghosts-run_phase g a = record { table = a.blank.0; state = a.blank.1; passes = a.state.now.cpus }
