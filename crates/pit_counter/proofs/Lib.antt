@@ -4,5 +4,7 @@ pub mod Times
 pub mod Quiet
 pub mod Joins
 pub mod Reloaded
+pub mod Divided
+pub mod Later
 mod PartRows
 mod Rows

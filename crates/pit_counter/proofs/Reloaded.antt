@@ -83,7 +83,7 @@ odd_from true true h = refl
 odd_from false false h = refl
 odd_from other odd h = cc
 
-not_from : (b : Bool) → not b ≡ true → b ≡ false
+pub not_from : (b : Bool) → not b ≡ true → b ≡ false
 not_from true h = cc
 not_from false h = refl
 
@@ -140,11 +140,11 @@ one_more c d e n here none next rises test = (
 -- ---- mode 2
 
 -- a pulse counts, and loads only at the end
-record Counting (c : CounterParts) : Type 0 where
-  begins : ((c.full && not c.live) || c.trig) ≡ false
-  counts : (c.live && c.gate) ≡ true
+pub record Counting (c : CounterParts) : Type 0 where
+  pub begins : ((c.full && not c.live) || c.trig) ≡ false
+  pub counts : (c.live && c.gate) ≡ true
 
-Counting-from : (c : CounterParts) → c.gate ≡ true → c.live ≡ true → c.trig ≡ false → Counting c
+pub Counting-from : (c : CounterParts) → c.gate ≡ true → c.live ≡ true → c.trig ≡ false → Counting c
 Counting-from c gate live trig = record {
   begins = simp (live, trig) (by_full c.full);
   counts = simp (live, gate);
@@ -158,7 +158,7 @@ Counting-reloaded : (c : CounterParts) → Reloaded c → Counting c
 Counting-reloaded c r = Counting-from c r.gate r.live r.trig
 
 -- the height of the count that a load leaves
-height-loaded : (c : CounterParts) (n : ℕ) → c.ce ≡ n % modulus c.bits → 2 ≤ n → n ≤ modulus c.bits → height c ≡ n
+pub height-loaded : (c : CounterParts) (n : ℕ) → c.ce ≡ n % modulus c.bits → 2 ≤ n → n ≤ modulus c.bits → height c ≡ n
 unfolding height modulus
 height-loaded c n = cond_both (is_bcd c.bits) 10000 65536 (λ m. c.ce ≡ n % m → 2 ≤ n → n ≤ m → cond (eqb c.ce 0) m c.ce ≡ n)
     (λ _ e some few. cond_both (eqb c.ce 0) 10000 c.ce (λ x. x ≡ n) (λ z. omega (arith, eqb-true c.ce 0 z)) (λ z. omega (arith, eqb-false c.ce 0 z)))
@@ -169,7 +169,7 @@ unfolding lowered modulus
 lowered-two bits = cond_both (is_bcd bits) 10000 65536 (λ m. (2 + m - 1) % m ≡ 1) (λ _. refl) (λ _. refl)
 
 -- the effect of a pulse at another count and level
-effect-rate : (c : CounterParts) (x : ℕ) (o : Bool) → Counting c → mode_of c.bits ≡ RateGenerator
+pub effect-rate : (c : CounterParts) (x : ℕ) (o : Bool) → Counting c → mode_of c.bits ≡ RateGenerator
     → effect_in (mode_of c.bits) (record c { ce = x; out = o }) ≡ rate_effect false true (eqb x 1) o
 unfolding effect_in
 effect-rate c x o k m =
@@ -426,7 +426,7 @@ round_at c SquareWave m p r below some few = round_in_3 c (eqb (meant_count c.bi
 round_at c other m p r below some few = cc
 
 -- the count meant is 2 at least there
-meant_count-some : (bits cr : ℕ) → is_periodic (mode_of bits) ≡ true → 2 ≤ meant_count bits cr
+pub meant_count-some : (bits cr : ℕ) → is_periodic (mode_of bits) ≡ true → 2 ≤ meant_count bits cr
 unfolding meant_count modulus
 meant_count-some bits cr p =
     cond_both (eqb (number_in bits cr) 0) (cond (is_bcd bits) 10000 65536)
@@ -478,7 +478,7 @@ round_after_load c gate m few =
     (record { periodic = ap is_periodic m; gate = gate; live = refl; out = refl; null = refl; trig = refl; armed = ap has_strobe m; ce = refl; odd = refl })
     m (loaded_count-below c.bits c.cr) (meant_count-some c.bits c.cr (ap is_periodic m)) few
 
-rate-from : (m : Mode) → is_rate m ≡ true → m ≡ RateGenerator
+pub rate-from : (m : Mode) → is_rate m ≡ true → m ≡ RateGenerator
 rate-from RateGenerator h = refl
 rate-from other h = cc
 

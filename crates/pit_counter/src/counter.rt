@@ -170,9 +170,7 @@ impl Counter {
         ensures state { self.new ≡ after_read self.old }
         ensures byte { result ≡ byte_read (pulsed_times n self.old) }
     {
-        let mut later = self.parts;
-        take_pulses(&mut later, n);
-        let byte = reading::byte_read(&later);
+        let byte = reading::byte_read_later(&self.parts, n);
         reading::leave_read(&mut self.parts);
         byte
     }

@@ -1,8 +1,11 @@
 //! Latches, and the order in which a counter's bytes are read. Intel 8254 data sheet, "Read
 //! Operations", "Counter Latch Command" and "Read-Back Command".
 
-ghost use Rattle.std.specs.Prelude.{◌≡◌, ◌<◌};
+ghost use Rattle.std.specs.Prelude.{◌≡◌, ◌<◌, ◌/◌, ◌%◌, if◌then◌else◌};
+ghost use Rattle.pit_counter.specs.Mode.{access_of};
 ghost use Rattle.pit_counter.specs.Count.{modulus};
+ghost use Rattle.pit_counter.specs.Parts.{IsCounter};
+ghost use Rattle.pit_counter.specs.Table.{pulsed_times};
 ghost use Rattle.pit_counter.specs.Reading.{
   count_of,
   status_of,
@@ -18,6 +21,7 @@ ghost use Rattle.pit_counter.specs.Reading.{
 use crate::count::read_as;
 use crate::mode::{Access, access_of};
 use crate::parts::CounterParts;
+use crate::stretch::count_after;
 
 /// The count as it reads now.
 #[tactic(auto, unfolding(crate::specs::Reading::count_of))]
@@ -102,6 +106,18 @@ fn reads_last(access: Access, high_next: bool) -> bool
     }
 }
 
+/// The byte of a count that a read gives.
+#[inline(always)]
+fn byte_of(count: u16, p: &CounterParts) -> u8
+    ensures { result ≡ (if reads_high (access_of p.now.bits) p.now.high_next then count / 256 else count % 256) }
+{
+    if reads_high(access_of(p.bits), p.high_next) {
+        (count / 256) as u8
+    } else {
+        (count % 256) as u8
+    }
+}
+
 /// The byte that a read gives: a latched status first, else a byte of the count.
 #[inline(always)]
 #[tactic(auto, unfolding(crate::specs::Reading::byte_read))]
@@ -112,12 +128,19 @@ pub fn byte_read(p: &CounterParts) -> u8
     if p.status_latched {
         return p.latched_status;
     }
-    let count = shown_count(p);
-    if reads_high(access_of(p.bits), p.high_next) {
-        (count / 256) as u8
-    } else {
-        (count % 256) as u8
+    byte_of(shown_count(p), p)
+}
+
+/// The byte that a read gives after `n` more pulses: no pulse changes what is latched, nor the order of the bytes.
+#[inline(always)]
+pub fn byte_read_later(p: &CounterParts, n: u64) -> u8
+    requires { IsCounter p.now }
+    ensures { result ≡ byte_read (pulsed_times n p.now) }
+{
+    if p.status_latched || p.count_latched {
+        return byte_read(p);
     }
+    byte_of(read_as(p.bits, count_after(p, n)), p)
 }
 
 /// What a read leaves: a latched status is released, or the other byte of a count is next. With its last byte a latched

@@ -263,6 +263,22 @@ fn rate_periods(p: CounterParts, n: u64) -> Leap
     }
 }
 
+/// The count of a counter that divides after `n` pulses: what is left then of a period, be it the
+/// present one or a later one.
+#[inline(always)]
+fn divided_count(p: &CounterParts, n: u64) -> u16
+    requires below { p.now.ce < modulus p.now.bits }
+    requires counts { is_dividing p.now ≡ true }
+    ensures { result ≡ (pulsed_times n p.now).ce }
+{
+    let left = height(p);
+    if n < left {
+        return remainder(p.bits, left - n) as u16;
+    }
+    let period = meant_count(p.bits, p.cr) as u64;
+    remainder(p.bits, period - (n - left) % period) as u16
+}
+
 /// Takes as many of the next `n` pulses as go at once.
 fn next_leap(p: CounterParts, n: u64) -> Leap
     requires some { 0 < n }
@@ -340,4 +356,29 @@ pub fn take_pulses(p: &mut CounterParts, n: u64) -> Rises
         return NONE;
     }
     take_loud_pulses(p, n)
+}
+
+/// The count after `n` pulses that a copy takes.
+#[cold]
+#[inline(never)]
+fn count_taken(p: &CounterParts, n: u64) -> u16
+    requires { IsCounter p.now }
+    ensures { result ≡ (pulsed_times n p.now).ce }
+{
+    let mut later = *p;
+    take_pulses(&mut later, n);
+    later.ce
+}
+
+/// The count after `n` pulses, of which none is taken.
+#[inline(always)]
+pub fn count_after(p: &CounterParts, n: u64) -> u16
+    requires { IsCounter p.now }
+    ensures { result ≡ (pulsed_times n p.now).ce }
+{
+    if is_dividing(p) {
+        divided_count(p, n)
+    } else {
+        count_taken(p, n)
+    }
 }
