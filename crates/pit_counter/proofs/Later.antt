@@ -1,9 +1,12 @@
 -- What pulses leave for a read.
-use Rattle.std.proofs.Common.{◌≡◌, ℕ, zero, suc, ◌/◌, ◌%◌, Bool, true, false, cond, refl, sym, ap, ◌∙◌}
-use Rattle.pit_counter.specs.Mode.{mode_of, access_of}
+use Rattle.std.proofs.Common.{◌≡◌, ℕ, zero, suc, ◌/◌, ◌%◌, Bool, true, false, not, ◌&&◌, ◌||◌, cond, eqb, refl, sym, ap, ◌∙◌}
+use Rattle.std.specs.Prelude.{IsTrue}
+use Rattle.std.proofs.lemmas.Bool.{eqb-true}
+use Rattle.pit_counter.specs.Mode.{mode_of, access_of, is_bcd, takes_two}
 use Rattle.pit_counter.specs.Table.{effect_in, affected, pulsed, pulsed_times}
-use Rattle.pit_counter.specs.Count.{read_as}
-use Rattle.pit_counter.specs.Reading.{count_of, shown_count, reads_high, byte_read}
+use Rattle.pit_counter.specs.Count.{read_as, to_digits}
+use Rattle.pit_counter.specs.Reading.{count_of, shown_count, reads_high, reads_last, byte_read, status_released, count_released, after_read}
+use Rattle.pit_counter.specs.Parts.{IsCounter, only_where, read_order_valid, latched_count_valid}
 use Rattle.pit_counter.specs.declared.table.Effect.{Effect}
 use Rattle.pit_counter.specs.declared.table.Effect.TheVariants.{
   Load,
@@ -78,3 +81,41 @@ byte_read-present c s l =
     let byte : ℕ → ℕ = λ k. cond (reads_high (access_of c.bits) c.high_next) (k / 256) (k % 256) in
     sym (ap (λ (b : Bool). cond b c.latched_status (byte (cond c.count_latched c.latched_count (read_as c.bits c.ce)))) s
     ∙ ap (λ (b : Bool). byte (cond b c.latched_count (read_as c.bits c.ce))) l)
+
+-- ---- what a read with nothing latched leaves
+
+-- the high byte is next only where there are two
+same_next : (a t : Bool) → IsTrue (only_where a t) → t ≡ false → a ≡ (t && not a)
+same_next a true h e = cc
+same_next true false h e = cc
+same_next false false h e = refl
+
+pub one_byte-next : (c : CounterParts) → IsCounter c → takes_two (access_of c.bits) ≡ false → c.high_next ≡ (takes_two (access_of c.bits) && not c.high_next)
+unfolding read_order_valid
+one_byte-next c h e = same_next c.high_next (takes_two (access_of c.bits)) h.read_order e
+
+-- a latched count is 0 where none is latched
+none_latched : (b : Bool) (x : ℕ) → b ≡ false → IsTrue (b || eqb x 0) → x ≡ 0
+none_latched true x e h = cc
+none_latched false x e h = eqb-true x 0 h
+
+zero_either : (b : Bool) (x : ℕ) → x ≡ 0 → x ≡ cond b 0 x
+zero_either true x e = e
+zero_either false x e = refl
+
+pub after_read-present : (c : CounterParts) (next : Bool) → IsCounter c → c.status_latched ≡ false → c.count_latched ≡ false
+    → next ≡ (takes_two (access_of c.bits) && not c.high_next) → record c { high_next = next } ≡ after_read c
+unfolding after_read count_released latched_count_valid
+after_read-present c next h s l e =
+    let last : Bool = reads_last (access_of c.bits) c.high_next in
+    let count : c.count_latched ≡ (c.count_latched && not last) = l ∙ sym (ap (λ (b : Bool). b && not last) l) in
+    let latched : c.latched_count ≡ cond last 0 c.latched_count = zero_either last c.latched_count
+    (none_latched c.count_latched c.latched_count l h.latched_count) in
+    let released : record c { high_next = next } ≡ count_released c =
+    λ i. record c { high_next = e i; count_latched = count i; latched_count = latched i } in
+    released ∙ sym (ap (λ (b : Bool). cond b (status_released c) (count_released c)) s)
+
+-- in binary the count reads as it is
+pub read_as-binary : (bits ce : ℕ) → is_bcd bits ≡ false → read_as bits ce ≡ ce
+unfolding read_as
+read_as-binary bits ce h = ap (λ (b : Bool). cond b (to_digits ce) ce) h

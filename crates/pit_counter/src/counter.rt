@@ -170,8 +170,6 @@ impl Counter {
         ensures state { self.new ≡ after_read self.old }
         ensures byte { result ≡ byte_read (pulsed_times n self.old) }
     {
-        let byte = reading::byte_read_later(&self.parts, n);
-        reading::leave_read(&mut self.parts);
-        byte
+        reading::read_later(&mut self.parts, n)
     }
 }

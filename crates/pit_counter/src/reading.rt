@@ -1,7 +1,7 @@
 //! Latches, and the order in which a counter's bytes are read. Intel 8254 data sheet, "Read
 //! Operations", "Counter Latch Command" and "Read-Back Command".
 
-ghost use Rattle.std.specs.Prelude.{◌≡◌, ◌<◌, ◌/◌, ◌%◌, if◌then◌else◌};
+ghost use Rattle.std.specs.Prelude.{◌≡◌, ◌<◌, ◌/◌, ◌%◌, false, if◌then◌else◌};
 ghost use Rattle.pit_counter.specs.Mode.{access_of};
 ghost use Rattle.pit_counter.specs.Count.{modulus};
 ghost use Rattle.pit_counter.specs.Parts.{IsCounter};
@@ -19,9 +19,9 @@ ghost use Rattle.pit_counter.specs.Reading.{
 };
 
 use crate::count::read_as;
-use crate::mode::{Access, access_of};
+use crate::mode::{Access, access_of, is_bcd};
 use crate::parts::CounterParts;
-use crate::stretch::count_after;
+use crate::stretch::{divided_count, is_dividing, take_pulses};
 
 /// The count as it reads now.
 #[tactic(auto, unfolding(crate::specs::Reading::count_of))]
@@ -106,12 +106,12 @@ fn reads_last(access: Access, high_next: bool) -> bool
     }
 }
 
-/// The byte of a count that a read gives.
+/// The high or the low byte of a count.
 #[inline(always)]
-fn byte_of(count: u16, p: &CounterParts) -> u8
-    ensures { result ≡ (if reads_high (access_of p.now.bits) p.now.high_next then count / 256 else count % 256) }
+fn byte_of(count: u16, high: bool) -> u8
+    ensures { result ≡ (if high then count / 256 else count % 256) }
 {
-    if reads_high(access_of(p.bits), p.high_next) {
+    if high {
         (count / 256) as u8
     } else {
         (count % 256) as u8
@@ -128,19 +128,8 @@ pub fn byte_read(p: &CounterParts) -> u8
     if p.status_latched {
         return p.latched_status;
     }
-    byte_of(shown_count(p), p)
-}
-
-/// The byte that a read gives after `n` more pulses: no pulse changes what is latched, nor the order of the bytes.
-#[inline(always)]
-pub fn byte_read_later(p: &CounterParts, n: u64) -> u8
-    requires { IsCounter p.now }
-    ensures { result ≡ byte_read (pulsed_times n p.now) }
-{
-    if p.status_latched || p.count_latched {
-        return byte_read(p);
-    }
-    byte_of(read_as(p.bits, count_after(p, n)), p)
+    let high = reads_high(access_of(p.bits), p.high_next);
+    byte_of(shown_count(p), high)
 }
 
 /// What a read leaves: a latched status is released, or the other byte of a count is next. With its last byte a latched
@@ -162,4 +151,72 @@ pub fn leave_read(p: &mut CounterParts)
     if last {
         p.latched_count = 0;
     }
+}
+
+/// Reads a byte, out of the way of reads with nothing latched.
+#[cold]
+#[inline(never)]
+fn read(p: &mut CounterParts) -> u8
+    requires { p.old.ce < modulus p.old.bits }
+    ensures state { p.new ≡ after_read p.old }
+    ensures byte { result ≡ byte_read p.old }
+{
+    let byte = byte_read(p);
+    leave_read(p);
+    byte
+}
+
+/// Reads a byte as after `n` more pulses, which a copy takes.
+#[cold]
+#[inline(never)]
+fn read_by_copy(p: &mut CounterParts, n: u64) -> u8
+    requires { IsCounter p.old }
+    ensures state { p.new ≡ after_read p.old }
+    ensures byte { result ≡ byte_read (pulsed_times n p.old) }
+{
+    let mut later = *p;
+    take_pulses(&mut later, n);
+    let byte = byte_read(&later);
+    leave_read(p);
+    byte
+}
+
+/// A read with nothing latched changes only which byte is next. Answers whether it gives the high
+/// byte.
+#[inline(always)]
+fn turn(p: &mut CounterParts) -> bool
+    requires valid { IsCounter p.old }
+    requires no_status { p.old.status_latched ≡ false }
+    requires no_count { p.old.count_latched ≡ false }
+    ensures state { p.new ≡ after_read p.old }
+    ensures high { result ≡ reads_high (access_of p.old.bits) p.old.high_next }
+{
+    match access_of(p.bits) {
+        Access::LowByte => false,
+        Access::HighByte => true,
+        Access::LowThenHigh => {
+            let high = p.high_next;
+            p.high_next = !high;
+            high
+        }
+    }
+}
+
+/// Reads a byte as after `n` more pulses, and takes none of them: no pulse changes what is latched,
+/// nor the order of the bytes.
+#[inline(always)]
+pub fn read_later(p: &mut CounterParts, n: u64) -> u8
+    requires { IsCounter p.old }
+    ensures state { p.new ≡ after_read p.old }
+    ensures byte { result ≡ byte_read (pulsed_times n p.old) }
+{
+    if p.status_latched || p.count_latched {
+        return read(p);
+    }
+    if !is_dividing(p) || is_bcd(p.bits) {
+        return read_by_copy(p, n);
+    }
+    let count = divided_count(p, n);
+    let high = turn(p);
+    byte_of(count, high)
 }

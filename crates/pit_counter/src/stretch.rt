@@ -190,7 +190,7 @@ fn is_reloaded(p: &CounterParts) -> bool
 
 /// Mode 2 counts with GATE high, on to the load after a count of 1.
 #[tactic(auto, unfolding(crate::specs::private::Stretch::is_dividing))]
-fn is_dividing(p: &CounterParts) -> bool
+pub fn is_dividing(p: &CounterParts) -> bool
     ensures { result ≡ is_dividing p.now }
 {
     mode_of(p.bits).is_rate() && p.gate && p.live && !p.trig && p.ce != 1
@@ -266,7 +266,7 @@ fn rate_periods(p: CounterParts, n: u64) -> Leap
 /// The count of a counter that divides after `n` pulses: what is left then of a period, be it the
 /// present one or a later one.
 #[inline(always)]
-fn divided_count(p: &CounterParts, n: u64) -> u16
+pub fn divided_count(p: &CounterParts, n: u64) -> u16
     requires below { p.now.ce < modulus p.now.bits }
     requires counts { is_dividing p.now ≡ true }
     ensures { result ≡ (pulsed_times n p.now).ce }
@@ -356,29 +356,4 @@ pub fn take_pulses(p: &mut CounterParts, n: u64) -> Rises
         return NONE;
     }
     take_loud_pulses(p, n)
-}
-
-/// The count after `n` pulses that a copy takes.
-#[cold]
-#[inline(never)]
-fn count_taken(p: &CounterParts, n: u64) -> u16
-    requires { IsCounter p.now }
-    ensures { result ≡ (pulsed_times n p.now).ce }
-{
-    let mut later = *p;
-    take_pulses(&mut later, n);
-    later.ce
-}
-
-/// The count after `n` pulses, of which none is taken.
-#[inline(always)]
-pub fn count_after(p: &CounterParts, n: u64) -> u16
-    requires { IsCounter p.now }
-    ensures { result ≡ (pulsed_times n p.now).ce }
-{
-    if is_dividing(p) {
-        divided_count(p, n)
-    } else {
-        count_taken(p, n)
-    }
 }
