@@ -5,4 +5,5 @@ pub mod RisesOf
 mod Rows
 pub mod OfLines
 pub mod Rising
+pub mod Sole
 pub mod Places

@@ -43,7 +43,7 @@ between a t b (u ∷ us) h k e =
     cc
 
 -- a line that rises at no time after a and up to t has the level that it had
-is_up_at-still : (a t : ℕ) (u : Option ℕ) → a ≤ t → ((r : ℕ) → u ≡ Some r → a < r → t < r) → is_up_at t u ≡ is_up_at a u
+pub is_up_at-still : (a t : ℕ) (u : Option ℕ) → a ≤ t → ((r : ℕ) → u ≡ Some r → a < r → t < r) → is_up_at t u ≡ is_up_at a u
 is_up_at-still a t None h none = refl
 is_up_at-still a t (Some r) h none = elim (cases_lt a r) [
   | inr up ↦ le-leb r t (omega arith) ∙ sym (le-leb r a up)

@@ -1,9 +1,9 @@
 //! Lines that go up once at most in a stretch, each given by the nanosecond from which on it is up.
-ghost use Rattle.std.specs.Prelude.{◌≡◌, ◌+◌, ◌-◌, ◌≤◌, ◌++◌, length};
+ghost use Rattle.std.specs.Prelude.{◌≡◌, ◌+◌, ◌-◌, ◌≤◌, [], ◌∷◌, ◌++◌, length, IfSome};
 ghost use Rattle.irq_edges.specs.declared.edges.TheConstants.{EDGE_PLACES};
 ghost use Rattle.irq_edges.specs.Lines.{line_numbers};
 ghost use Rattle.irq_edges.specs.Rises.{is_up_at, levels_at, rises_of, IsNextRise};
-ghost use Rattle.irq_edges.specs.private.Rises.{earlier_rise, rises_at, rising};
+ghost use Rattle.irq_edges.specs.private.Rises.{earlier_rise, rises_at, rising, listed, edge_within, edges_within};
 
 use crate::edges::{Edge, EdgeList};
 use crate::lines::{LINE_NUMBERS, Lines};
@@ -82,9 +82,55 @@ fn append_rises(times: &[Option<u64>; 6], t: u64, to: u64, into: &mut EdgeList) 
     next
 }
 
+/// The edge of a line that is up from then on, if it goes up after `from` and up to `to`.
+fn edge_within(line: u8, time: Option<u64>, from: u64, to: u64) -> Option<Edge>
+    ensures { listed result ≡ edge_within from to line time }
+{
+    match time {
+        Some(rise) if from < rise && rise <= to => Some(Edge {
+            at: rise,
+            line,
+            up: true,
+        }),
+        _ => None,
+    }
+}
+
+/// The one edge after `from` and up to `to`, or None where there are more, or none.
+#[inline(always)]
+fn sole_edge(times: &[Option<u64>; 6], from: u64, to: u64) -> Option<Edge>
+    ensures { IfSome result (λ e. edges_within from to line_numbers times.now ≡ e ∷ []) }
+{
+    let mut sole = None;
+    for place in 0..6 {
+        if let Some(edge) = edge_within(LINE_NUMBERS[place], times[place], from, to) {
+            if sole.is_some() {
+                return None;
+            }
+            sole = Some(edge);
+        }
+    }
+    sole
+}
+
 /// Appends the edges of the nanoseconds after `from` and up to `to`, in order of time and, at one
 /// time, of line numbers. They are six at most, since no line falls; six places must be free.
+// Most stretches with an edge have one.
 pub fn emit(times: &[Option<u64>; 6], from: u64, to: u64, into: &mut EdgeList)
+    requires forward { from ≤ to }
+    requires room { length into.old + 6 ≤ EDGE_PLACES }
+    ensures appended { into.new ≡ into.old ++ rises_of line_numbers times.now from (to - from) }
+    ensures few { length into.new ≤ length into.old + 6 }
+{
+    match sole_edge(times, from, to) {
+        Some(edge) => into.push(edge),
+        None => emit_all(times, from, to, into),
+    }
+}
+
+/// The same from rise to rise, for as many as there are.
+#[inline(never)]
+fn emit_all(times: &[Option<u64>; 6], from: u64, to: u64, into: &mut EdgeList)
     requires forward { from ≤ to }
     requires room { length into.old + 6 ≤ EDGE_PLACES }
     ensures appended { into.new ≡ into.old ++ rises_of line_numbers times.now from (to - from) }

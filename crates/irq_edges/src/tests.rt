@@ -57,6 +57,9 @@ fn rises_of_a_stretch(rt: HostRuntime) {
     emit(&times, 10, 20, &mut edges);
     let wanted = [edge(12, 8, true), edge(12, 21, true), edge(15, 22, true)];
     assert_eq!(rt; edges.as_slice(), wanted.as_slice());
+    let mut last = EdgeList::new();
+    emit(&times, 12, 20, &mut last);
+    assert_eq!(rt; last.as_slice(), [edge(15, 22, true)].as_slice());
 }
 
 #[test]

@@ -29,14 +29,6 @@ byte_read-affected DownByTwo c x = refl
 byte_read-affected DownToStrobe c x = refl
 byte_read-affected (Stand level) c x = refl
 
-bits-affected : (e : Effect) (c : CounterParts) → (affected e c).bits ≡ c.bits
-bits-affected (Load level) c = refl
-bits-affected DownToHigh c = refl
-bits-affected DownToLow c = refl
-bits-affected DownByTwo c = refl
-bits-affected DownToStrobe c = refl
-bits-affected (Stand level) c = refl
-
 -- and so do pulses
 byte_read-at : (c : CounterParts) (n x : ℕ) → byte_read (record (pulsed_times n c) { ce = x }) ≡ byte_read (record c { ce = x })
 unfolding pulsed
@@ -49,14 +41,6 @@ byte_read-at c (suc n) x =
 
 pub byte_read-later : (c : CounterParts) (n : ℕ) → byte_read (record c { ce = (pulsed_times n c).ce }) ≡ byte_read (pulsed_times n c)
 byte_read-later c n = sym (byte_read-at c n (pulsed_times n c).ce)
-
--- no pulse changes the programmed bits
-pub bits-later : (c : CounterParts) (n : ℕ) → (pulsed_times n c).bits ≡ c.bits
-unfolding pulsed
-bits-later c zero = ap (λ (d : CounterParts). d.bits) (pulsed_times-zero c)
-bits-later c (suc n) =
-    let d : CounterParts = pulsed_times n c in
-    ap (λ (d : CounterParts). d.bits) (pulsed_times-suc n c) ∙ bits-affected (effect_in (mode_of d.bits) d) d ∙ bits-later c n
 
 first_of : (test : Bool) (x y z : ℕ) → test ≡ true → cond test x y ≡ cond test x z
 first_of true x y z h = refl

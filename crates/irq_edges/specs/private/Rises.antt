@@ -41,3 +41,20 @@ abbrev pub rising : ℕ → List ℕ → List (Option ℕ) → List Edge
 rising t [] us = []
 rising t (n ∷ ns) [] = []
 rising t (n ∷ ns) (u ∷ us) = rise_of t n u ++ rising t ns us
+
+-- the edge of a line with that number after `from` and up to `to`
+abbrev pub edge_within : ℕ → ℕ → ℕ → Option ℕ → List Edge
+edge_within from to n None = []
+edge_within from to n (Some r) =
+    if nat_lt from r && nat_le r to then record { at = r; line = n; up = true } ∷ [] else []
+
+-- such edges line by line, in order of the lines and not of time
+abbrev pub edges_within : ℕ → ℕ → List ℕ → List (Option ℕ) → List Edge
+edges_within from to [] us = []
+edges_within from to (n ∷ ns) [] = []
+edges_within from to (n ∷ ns) (u ∷ us) = edge_within from to n u ++ edges_within from to ns us
+
+-- an edge or none as a list
+abbrev pub listed : Option Edge → List Edge
+listed None = []
+listed (Some e) = e ∷ []

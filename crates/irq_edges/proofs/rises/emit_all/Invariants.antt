@@ -2,7 +2,7 @@ use Rattle.std.proofs.Common.{◌≡◌, ◌+◌, ◌-◌, ◌≤◌, ◌++◌, 
 use Rattle.irq_edges.specs.Lines.{line_numbers}
 use Rattle.irq_edges.specs.Rises.{rises_of, IsNextRise}
 use Rattle.irq_edges.specs.private.Rises.{down_at}
-use Rattle.irq_edges.proofs.rises.emit.Given as goal
+use Rattle.irq_edges.proofs.rises.emit_all.Given as goal
 
 abbrev pub invariant-loop-next : goal.invariant-loop-next
 invariant-loop-next l = record {
