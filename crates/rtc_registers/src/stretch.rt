@@ -91,6 +91,8 @@ fn take_ticks(r: &mut RtcParts, divider: DividerParts)
 }
 
 /// Lets `n` pulses pass. Where no event falls the divider alone moves, and where no update does it and PF.
+// Inlined, it leaves out what its caller doesn't ask of the events.
+#[inline(always)]
 pub(crate) fn pass(r: &mut RtcParts, n: u64) -> RtcEvents
     requires { IsRtc r.old }
     ensures state { r.new ≡ rtc_pulsed_times n r.old }
