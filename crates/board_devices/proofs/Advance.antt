@@ -128,10 +128,11 @@ run-up d t n k c s l known point j le =
 pub record Brought (d : DeviceParts) (t n : ℕ) (rises : Rises) (events : RtcEvents) (ms : List Matches) : Type 0 where
   pub pit_count : rises.count ≡ rises_in (counter_of d.pit 0) (pulses_from PIT_HZ t n)
   pub pit_first : IsFirst (rises_in (counter_of d.pit 0)) (pulses_from PIT_HZ t n) rises.first
-  pub rtc_count : events.cycle.ticks ≡ ticks_in (divider_of d.rtc) (pulses_from RTC_HZ t n)
-  pub rtc_first : IsFirst (ticks_in (divider_of d.rtc)) (pulses_from RTC_HZ t n) events.cycle.first_tick
-  pub update_first : IsFirst (updates_in (divider_of d.rtc)) (pulses_from RTC_HZ t n) events.cycle.first_update
-  pub alarm_first : IsFirst (alarms_in d.rtc) (pulses_from RTC_HZ t n) events.first_alarm
+  -- of the events of the MC146818 those that are heard
+  pub rtc_count : counts_rtc d ≡ true → events.cycle.ticks ≡ ticks_in (divider_of d.rtc) (pulses_from RTC_HZ t n)
+  pub rtc_first : counts_rtc d ≡ true → IsFirst (ticks_in (divider_of d.rtc)) (pulses_from RTC_HZ t n) events.cycle.first_tick
+  pub update_first : uie_of d.rtc ≡ true → IsFirst (updates_in (divider_of d.rtc)) (pulses_from RTC_HZ t n) events.cycle.first_update
+  pub alarm_first : aie_of d.rtc ≡ true → IsFirst (alarms_in d.rtc) (pulses_from RTC_HZ t n) events.first_alarm
   pub timer_count : (k : ℕ) → (timer_matches ms k).count ≡ matches_of k d.hpet (pulses_from HPET_HZ t n)
   pub timer_first : (k : ℕ) → IsFirst (matches_of k d.hpet) (pulses_from HPET_HZ t n) (timer_matches ms k).first
 
@@ -163,9 +164,9 @@ module _ {d : DeviceParts} {t n c : ℕ} {rises : Rises} {events : RtcEvents} {m
   known (suc zero) h = subst (AreTicks d t n 1) (sym know.rtc_is) (record {
     seen = refl;
     counts = counts-where (counts_rtc d) (ticks_in (divider_of d.rtc)) RTC_HZ t (omega arith) (CountsUp-ticks_in (divider_of d.rtc));
-    number = number-where (counts_rtc d) (ticks_in (divider_of d.rtc)) RTC_HZ t n events.cycle.ticks (λ _. know.brought.rtc_count);
+    number = number-where (counts_rtc d) (ticks_in (divider_of d.rtc)) RTC_HZ t n events.cycle.ticks know.brought.rtc_count;
     first = first-where (counts_rtc d) (ticks_in (divider_of d.rtc)) RTC_HZ t n events.cycle.first_tick (omega arith) (CountsUp-ticks_in (divider_of d.rtc))
-        (λ _. know.brought.rtc_first);
+        know.brought.rtc_first;
   })
   known (suc (suc k)) h = record {
     seen = refl;
@@ -318,13 +319,13 @@ module _ {d : DeviceParts} {t n c : ℕ} {rises : Rises} {events : RtcEvents} {m
       ap (λ (x : Bool). (x && aie_of d.rtc) || (uf_of r && uie_of d.rtc)) (af-now j (flag_at j))
       ∙ ap (λ (x : Bool). x || (uf_of r && uie_of d.rtc))
       (flag-up (aie_of d.rtc) (af_of d.rtc) (ltb 0 (alarms_in d.rtc (pulses_from RTC_HZ t j))) t j (first_at RTC_HZ t events.first_alarm)
-      (λ _. event-up (alarms_in d.rtc) RTC_HZ t n events.first_alarm (omega arith) (CountsUp-alarms_in d.rtc) know.brought.alarm_first j le))
+      (λ on. event-up (alarms_in d.rtc) RTC_HZ t n events.first_alarm (omega arith) (CountsUp-alarms_in d.rtc) (know.brought.alarm_first on) j le))
       ∙ ap (λ (x : Bool). alarm_up || (x && uie_of d.rtc)) (uf-now j (flag_at j))
       ∙ ap (λ (x : Bool). alarm_up || x)
       (flag-up (uie_of d.rtc) (uf_of d.rtc) (ltb 0 (updates_in (divider_of d.rtc) (pulses_from RTC_HZ t j))) t j
       (first_at RTC_HZ t events.cycle.first_update)
-      (λ _. event-up (updates_in (divider_of d.rtc)) RTC_HZ t n events.cycle.first_update (omega arith)
-      (CountsUp-updates_in (divider_of d.rtc)) know.brought.update_first j le))
+      (λ on. event-up (updates_in (divider_of d.rtc)) RTC_HZ t n events.cycle.first_update (omega arith)
+      (CountsUp-updates_in (divider_of d.rtc)) (know.brought.update_first on) j le))
       ∙ sym (up-either_from (t + j) _ _))
       ∙ sym (up-either_from (t + j) (up_at 1) _)
     where

@@ -22,6 +22,7 @@ pub mod AckEdges
 pub mod Slots
 pub mod LevelsOf
 pub mod Timers
+pub mod Unheard
 pub mod PowerOn
 pub mod MainCounter
 pub mod PortReads

@@ -1,6 +1,6 @@
 -- A stretch that moves no line: no update, no catch-up point, and ticks that find their lines up alone.
 use Rattle.std.proofs.Common.{◌≡◌, ℕ, zero, suc, ◌+◌, ◌<◌, ◌≤◌, Bool, true, false, cond, ltb, eqb, ◌&&◌, ◌||◌, not, List, [], ◌++◌}
-use Rattle.std.proofs.Common.{refl, ap, sym, ◌∙◌, inl, inr, arith}
+use Rattle.std.proofs.Common.{◌⊎◌, refl, ap, sym, ◌∙◌, inl, inr, arith}
 use Rattle.pit_readback.specs.declared.TheConstants.{PIT_HZ}
 use Rattle.rtc_registers.specs.declared.TheConstants.{RTC_HZ}
 use Rattle.hpet_registers.specs.declared.hpet.TheConstants.{HPET_HZ}
@@ -42,7 +42,9 @@ use Rattle.board_devices.specs.Places.{each, line_at, no_line}
 use Rattle.board_devices.specs.Nanosecond.{counts_rtc, sees_point}
 use Rattle.board_devices.specs.Lines.{output_of, drives, routed, levels}
 use Rattle.board_devices.specs.Run.{run, onward}
+use Rattle.board_devices.specs.private.Pulses.{is_unheard}
 use Rattle.board_devices.specs.private.Stretch.{source, line_run, flagged_where, parted}
+use Rattle.board_devices.proofs.Unheard.{irqf-unheard}
 use Rattle.board_devices.proofs.Places.{each-at, same_six}
 use Rattle.board_devices.proofs.Product.{Sound, run-parted, same_parts, flag-same, flag-none}
 use Rattle.board_devices.proofs.Advance.{counts-where}
@@ -51,8 +53,9 @@ pub record Quiet (d : DeviceParts) (t n c : ℕ) : Type 0 where
   pub sound : Sound d
   pub point : IsFirstPoint d.slew_ns t c
   pub early : n < c
-  pub ticks : ticks_in (divider_of d.rtc) (pulses_from RTC_HZ t n) ≡ 0
-  pub updates : updates_in (divider_of d.rtc) (pulses_from RTC_HZ t n) ≡ 0
+  -- the MC146818 has no event, or nobody hears it
+  pub clock : (is_unheard d.rtc ≡ true)
+      ⊎ ((ticks_in (divider_of d.rtc) (pulses_from RTC_HZ t n) ≡ 0) × (updates_in (divider_of d.rtc) (pulses_from RTC_HZ t n) ≡ 0))
   -- ticks find their line up, and no timer of level type matches
   pub found : (k : ℕ) → k < 10 → 0 < source d t k n → (line_at k d).up ≡ true
   pub level : (k : ℕ) → k < 8 → is_level (timer_at k d.hpet) ≡ true → matches_of k d.hpet (pulses_from HPET_HZ t n) ≡ 0
@@ -162,13 +165,14 @@ module _ {d : DeviceParts} {t n c : ℕ} (quiet : Quiet d t n c) where
       ∙ ap (λ (l : Bool). eqb (route_of (timer_at k d.hpet).config) line && not (l && ltb k 2)) (legacy-still j))
       ∙ ap (λ (b : Bool). routed line k d || (drives line k d.hpet && b)) (output-still j k le (omega arith))
 
-  irqf-still : (j : ℕ) → j ≤ n → irqf_of (rtc_pulsed_times (pulses_from RTC_HZ t j) d.rtc) ≡ irqf_of d.rtc
-  irqf-still j le =
+  irqf-none : (j : ℕ) → j ≤ n → ticks_in (divider_of d.rtc) (pulses_from RTC_HZ t n) ≡ 0 → updates_in (divider_of d.rtc) (pulses_from RTC_HZ t n) ≡ 0
+      → irqf_of (rtc_pulsed_times (pulses_from RTC_HZ t j) d.rtc) ≡ irqf_of d.rtc
+  irqf-none j le no_ticks no_updates =
       let m : ℕ = pulses_from RTC_HZ t j in
       let ticks : ticks_in (divider_of d.rtc) m
-      ≡ 0 = none-before (ticks_in (divider_of d.rtc)) RTC_HZ t j n (CountsUp-ticks_in (divider_of d.rtc)) le quiet.ticks in
+      ≡ 0 = none-before (ticks_in (divider_of d.rtc)) RTC_HZ t j n (CountsUp-ticks_in (divider_of d.rtc)) le no_ticks in
       let updates : updates_in (divider_of d.rtc) m
-      ≡ 0 = none-before (updates_in (divider_of d.rtc)) RTC_HZ t j n (CountsUp-updates_in (divider_of d.rtc)) le quiet.updates in
+      ≡ 0 = none-before (updates_in (divider_of d.rtc)) RTC_HZ t j n (CountsUp-updates_in (divider_of d.rtc)) le no_updates in
       let none : ltb 0 0 ≡ false = le-ltb 0 0 (omega arith) in
       irqf_of-rtc_pulsed_times m d.rtc quiet.sound.rtc
       ∙ ap (λ (x : ℕ). ((pf_of d.rtc || ltb 0 x) && pie_of d.rtc)
@@ -183,6 +187,12 @@ module _ {d : DeviceParts} {t n c : ℕ} (quiet : Quiet d t n c) where
       (or-false (pf_of d.rtc))
       ∙ ap (λ (b : Bool). (pf_of d.rtc && pie_of d.rtc) || ((b && aie_of d.rtc) || ((uf_of d.rtc || false) && uie_of d.rtc))) (or-false (af_of d.rtc))
       ∙ ap (λ (b : Bool). (pf_of d.rtc && pie_of d.rtc) || ((af_of d.rtc && aie_of d.rtc) || (b && uie_of d.rtc))) (or-false (uf_of d.rtc))
+
+  irqf-still : (j : ℕ) → j ≤ n → irqf_of (rtc_pulsed_times (pulses_from RTC_HZ t j) d.rtc) ≡ irqf_of d.rtc
+  irqf-still j le = elim quiet.clock [
+    | inl unheard ↦ irqf-unheard (pulses_from RTC_HZ t j) d.rtc quiet.sound.rtc unheard
+    | inr none ↦ irqf-none j le none.0 none.1
+  ]
 
   moved-levels : (j : ℕ) → j ≤ n → levels (moved j) ≡ levels d
   unfolding levels

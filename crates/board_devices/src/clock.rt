@@ -5,11 +5,20 @@ ghost use Rattle.hpet_registers.specs.Parts.{is_legacy};
 ghost use Rattle.tick_policy.specs.Line.{goes_again};
 ghost use Rattle.board_devices.specs.Places.{no_line, each};
 ghost use Rattle.board_devices.specs.Act.{rtc_set, acked_where};
+ghost use Rattle.board_devices.specs.private.Pulses.{is_unheard};
 ghost use Rattle.board_devices.specs.private.Stretch.{flagged_where, clock_place};
 
 use hpet_registers::Hpet;
 use rtc_registers::Rtc;
 use tick_policy::TickLine;
+
+/// Whether nobody hears the clock, as none of its interrupts is enabled.
+#[inline(always)]
+pub(crate) fn is_unheard(rtc: &Rtc) -> bool
+    ensures { result ≡ is_unheard rtc.now }
+{
+    !rtc.pie() && !rtc.aie() && !rtc.uie()
+}
 
 /// Whether the ticks of the clock are counted.
 pub(crate) fn counts_rtc(pie: bool, legacy: bool) -> bool

@@ -16,6 +16,7 @@ ghost use Rattle.std.specs.Prelude.{
   false,
   Some,
   None,
+  if◌then◌else◌,
 };
 ghost use Rattle.clk_units.specs.Events.{IsFirst};
 ghost use Rattle.rtc_cycle.specs.Divider.{ticks_in, updates_in};
@@ -29,10 +30,11 @@ ghost use Rattle.board_devices.specs.Rises.{one_if, lifts};
 ghost use Rattle.board_devices.specs.Places.{line_at};
 ghost use Rattle.board_devices.specs.Lines.{levels};
 ghost use Rattle.board_devices.specs.Run.{IsStretch, run, IsNextEdge};
-ghost use Rattle.board_devices.specs.private.Pulses.{ArePulses};
-ghost use Rattle.board_devices.specs.private.Runs.{HasAdvanced};
+ghost use Rattle.board_devices.specs.Parts.{IsDevices};
+ghost use Rattle.board_devices.specs.private.Pulses.{AreHeard, is_unheard, left_pulses};
+ghost use Rattle.board_devices.specs.private.Runs.{HasAdvanced, passed};
 
-use crate::clock::{counts_rtc, set_flag};
+use crate::clock::{counts_rtc, is_unheard, set_flag};
 use crate::devices::Devices;
 use crate::found_up::{brought_nothing, finds_up, take_matches};
 use crate::levels::{front_times, irq_up, shown_of};
@@ -48,21 +50,26 @@ impl Devices {
     /// Runs from nanosecond `from` to `to`. Answers whether something came that could move a line,
     /// and then puts into `times` from when on each line is up.
     // Most stretches bring nothing: a frame of its own would cost as much as what is done here.
-    // Those in which the MC146818's crystal pulses are few, and have one.
+    // Those in which the crystal of an MC146818 pulses that may interrupt are few, and have one.
     #[inline(always)]
     fn advance(&mut self, from: u64, to: u64, times: &mut [Option<u64>; 6]) -> bool
         requires { IsStretch from to self.old }
         ensures { HasAdvanced from to self.old self.new result times.new }
     {
         let pulses = pulse_counts(from, to);
-        if pulses.rtc > 0 {
-            return self.advance_apart(from, to, pulses, times);
+        let heard = heard_pulses(&self.rtc, pulses);
+        if heard.rtc > 0 {
+            return self.advance_apart(from, to, heard, times);
         }
-        self.advance_by(from, to, PulseCounts { rtc: 0, ..pulses }, times)
+        let moved = self.advance_by(from, to, PulseCounts { rtc: 0, ..heard }, times);
+        if pulses.rtc > 0 {
+            self.rtc.pass(pulses.rtc);
+        }
+        moved
     }
 
-    /// The same by the pulses of the stretch. Ticks that find their lines up move none: they are
-    /// counted alone.
+    /// The same by the pulses of the stretch, but for those of a clock that nobody hears: they are
+    /// left to the caller. Ticks that find their lines up move none: they are counted alone.
     #[inline(always)]
     fn advance_by(
         &mut self,
@@ -72,8 +79,10 @@ impl Devices {
         times: &mut [Option<u64>; 6],
     ) -> bool
         requires stretch { IsStretch from to self.old }
-        requires pulses { ArePulses from to pulses }
-        ensures { HasAdvanced from to self.old self.new result times.new }
+        requires pulses { AreHeard from to self.old.rtc pulses }
+        ensures ran { HasAdvanced from to self.old
+            (passed (left_pulses from to self.old.rtc) self.new) result times.new }
+        ensures joined { IsDevices (passed (left_pulses from to self.old.rtc) self.new) }
     {
         let _clock = self.rtc.parts();
         let legacy = self.hpet.legacy();
@@ -114,8 +123,10 @@ impl Devices {
         times: &mut [Option<u64>; 6],
     ) -> bool
         requires stretch { IsStretch from to self.old }
-        requires pulses { ArePulses from to pulses }
-        ensures { HasAdvanced from to self.old self.new result times.new }
+        requires pulses { AreHeard from to self.old.rtc pulses }
+        ensures ran { HasAdvanced from to self.old
+            (passed (left_pulses from to self.old.rtc) self.new) result times.new }
+        ensures joined { IsDevices (passed (left_pulses from to self.old.rtc) self.new) }
     {
         self.advance_by(from, to, pulses, times)
     }
@@ -159,11 +170,23 @@ impl Devices {
     {
         let mut copy = *self;
         let mut times = [None; 6];
-        let pulses = pulse_counts(now, RANGE_NS - 1);
+        let pulses = heard_pulses(&self.rtc, pulse_counts(now, RANGE_NS - 1));
         if !copy.advance_apart(now, RANGE_NS - 1, pulses, &mut times) {
             return None;
         }
         next_rise(&times, now, RANGE_NS - 1)
+    }
+}
+
+/// The pulses that a run takes: without those of a clock that nobody hears.
+#[inline(always)]
+fn heard_pulses(rtc: &Rtc, pulses: PulseCounts) -> PulseCounts
+    ensures { result ≡ (if is_unheard rtc.now then record pulses { rtc = 0 } else pulses) }
+{
+    if is_unheard(rtc) {
+        PulseCounts { rtc: 0, ..pulses }
+    } else {
+        pulses
     }
 }
 

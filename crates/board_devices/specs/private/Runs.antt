@@ -20,6 +20,7 @@ use Rattle.std.specs.Prelude.{
   slice_index_or,
 }
 use Rattle.clk_units.specs.Pulses.{pulses_from}
+use Rattle.rtc_registers.specs.Pulses.{rtc_pulsed_times}
 use Rattle.hpet_comparator.specs.declared.stretch.Matches.{Matches}
 use Rattle.hpet_registers.specs.declared.hpet.TheConstants.{HPET_HZ}
 use Rattle.hpet_registers.specs.declared.parts.HpetParts.{HpetParts}
@@ -32,6 +33,10 @@ use Rattle.board_devices.specs.Lines.{levels}
 use Rattle.board_devices.specs.Places.{line_at, no_line}
 use Rattle.board_devices.specs.Run.{run}
 use Rattle.board_devices.specs.private.Stretch.{end_of, up_of, timer_ticks, told_levels}
+
+-- the devices after n more pulses of the MC146818's crystal
+abbrev pub passed : ℕ → DeviceParts → DeviceParts
+passed n d = record d { rtc = rtc_pulsed_times n d.rtc }
 
 -- the devices after a run to `to`, and the levels on the way: as they were, or where `moved` holds by
 -- the times from which on the lines are up

@@ -1,5 +1,5 @@
 use Rattle.std.proofs.Common.{◌≡◌, ℕ, zero, suc, ◌+◌, ◌-◌, ◌*◌, ◌/◌, ◌<◌, ◌≤◌, ◌^◌, ◌&&◌, Bool, true, not, cond}
-use Rattle.std.proofs.Common.{get_or, List, Option, Some, None, ap, sym, subst, refl, ◌∙◌, inl, inr, false, arith}
+use Rattle.std.proofs.Common.{◌⊎◌, get_or, List, Option, Some, None, ap, sym, subst, refl, ◌∙◌, inl, inr, false, arith}
 use Rattle.std.proofs.lemmas.List.{get_or_default}
 use Rattle.std.proofs.lemmas.Bool.{cases_lt, true≢false}
 use Rattle.clk_units.specs.Bits.{bit}
@@ -11,15 +11,22 @@ use Rattle.pit_readback.specs.Pit.{counter_of}
 use Rattle.rtc_cycle.specs.Divider.{ticks_in}
 use Rattle.hpet_comparator.specs.Parts.{is_level}
 use Rattle.hpet_registers.proofs.Product.{is_level-hpet_pulsed_times, timers-hpet_pulsed_times}
-use Rattle.rtc_registers.specs.Registers.{divider_of, pf_of}
-use Rattle.rtc_registers.proofs.Times.{pf_of-rtc_pulsed_times, IsRtc-rtc_pulsed_times}
+use Rattle.rtc_cycle.specs.Divider.{updates_in}
+use Rattle.rtc_registers.specs.declared.parts.RtcParts.{RtcParts}
+use Rattle.rtc_registers.specs.Parts.{IsRtc}
+use Rattle.rtc_registers.specs.Registers.{divider_of, pf_of, pie_of, register_b}
+use Rattle.rtc_registers.proofs.Times.{pf_of-rtc_pulsed_times, IsRtc-rtc_pulsed_times, register_b-rtc_pulsed_times}
+use Rattle.board_devices.specs.private.Pulses.{is_unheard, heard_pulses, left_pulses}
+use Rattle.board_devices.specs.private.Runs.{passed}
+use Rattle.board_devices.proofs.Unheard.{heard-all, heard-few, heard-pie, heard-aie, heard-uie, left-none, passed-flagged, unheard-counts, unheard-pie}
+use Rattle.board_devices.proofs.Unheard.{IsDevices-unpassed, IsRtc-flagged_where}
 use Rattle.hpet_registers.specs.Parts.{is_legacy}
 use Rattle.hpet_registers.specs.Outputs.{has_ticks}
 use Rattle.tick_policy.specs.Line.{ticked_times}
 use Rattle.board_devices.specs.declared.stretch.Ticks.{Ticks}
 use Rattle.std.specs.Option.{IfSome}
 use Rattle.rtc_registers.specs.declared.TheConstants.{RTC_HZ}
-use Rattle.rtc_registers.specs.Pulses.{rtc_pulsed_times}
+use Rattle.rtc_registers.specs.Pulses.{rtc_pulsed_times, alarms_in}
 use Rattle.hpet_registers.specs.declared.hpet.TheConstants.{HPET_HZ}
 use Rattle.hpet_registers.specs.declared.parts.HpetParts.{HpetParts}
 use Rattle.hpet_registers.specs.Parts.{IsHpet, timer_at}
@@ -37,7 +44,7 @@ use Rattle.board_devices.specs.Run.{run}
 use Rattle.board_devices.specs.View.{parts_of}
 use Rattle.board_devices.specs.private.Stretch.{source, counted, timer_ticks, ticks_at, end_of, up_of, flagged_where, either_from}
 use Rattle.board_devices.specs.private.Stretch.{flag_from, output_up, slots_from}
-use Rattle.board_devices.proofs.Product.{Sound, run-parted}
+use Rattle.board_devices.proofs.Product.{Sound, run-parted, register_b-flagged_where}
 use Rattle.board_devices.proofs.Advance.{Brought, Known, ran-state, ran-levels, up-is, IsDevices-parted, due-few, up_at, irq_at, lines_from, outs}
 use Rattle.board_devices.proofs.Timers.{ends-timers, times-are}
 use Rattle.hpet_registers.proofs.After.{has_ticks-hpet_pulsed_times}
@@ -91,18 +98,47 @@ sound c = record {
 valid : (c : After-clock_pulses-events) → IsHpet c.self.inside.hpet
 valid c = subst IsHpet c.parts-status.ensures.parts c.parts-status.ensures.valid
 
+-- the clock has all its pulses where somebody hears it
+heard : (c : After-clock_pulses-events) → is_unheard c.self.inside.rtc ≡ false
+    → c.args.pulses.rtc ≡ pulses_from RTC_HZ c.args.from (c.args.to - c.args.from)
+heard c e = c.requires.pulses.rtc ∙ ap (λ (d : DeviceParts). heard_pulses c.args.from c.args.to d.rtc) (sym c.self.view_is)
+    ∙ heard-all c.args.from c.args.to c.self.inside.rtc e
+
+heard_counts : (c : After-clock_pulses-events) → counts_rtc (parts_of c.self.inside) ≡ true → is_unheard c.self.inside.rtc ≡ false
+heard_counts c on = heard-pie c.self.inside.rtc (first (pie_of c.self.inside.rtc) (not (is_legacy c.self.inside.hpet)) on)
+  where
+    first : (a b : Bool) → (a && b) ≡ true → a ≡ true
+    first true b h = refl
+    first false b h = absurd (true≢false (sym h))
+
 brought : (c : After-clock_pulses-events)
     → Brought (parts_of c.self.inside) c.args.from (c.args.to - c.args.from) c.pulses-rises.result c.clock_pulses-events.result c.pulses-reach.new.matches
 brought c = record {
   pit_count = rw c.requires.pulses.pit at c.pulses-rises.ensures.count;
   pit_first = rw c.requires.pulses.pit at c.pulses-rises.ensures.first;
-  rtc_count = rw c.requires.pulses.rtc at c.clock_pulses-events.ensures.ticks;
-  rtc_first = rw c.requires.pulses.rtc at c.clock_pulses-events.ensures.first_tick;
-  update_first = rw c.requires.pulses.rtc at c.clock_pulses-events.ensures.first_update;
-  alarm_first = rw c.requires.pulses.rtc at c.clock_pulses-events.ensures.first_alarm;
+  rtc_count = λ on. rw (heard c (heard_counts c on)) at c.clock_pulses-events.ensures.ticks;
+  rtc_first = λ on. rw (heard c (heard_counts c on)) at c.clock_pulses-events.ensures.first_tick;
+  update_first = λ on. rw (heard c (heard-uie c.self.inside.rtc on)) at c.clock_pulses-events.ensures.first_update;
+  alarm_first = λ on. rw (heard c (heard-aie c.self.inside.rtc on)) at c.clock_pulses-events.ensures.first_alarm;
   timer_count = rw c.requires.pulses.hpet at c.pulses-reach.ensures.count;
   timer_first = rw c.requires.pulses.hpet at c.pulses-reach.ensures.first;
 }
+
+-- first events come in the stretch
+inside : (count : ℕ → ℕ) (n most : ℕ) (first : Option ℕ) → n ≤ most → IsFirst count n first → IfSome first (λ j. j ≤ most)
+inside count n most None few h = tt
+inside count n most (Some j) few h = omega (arith, few, h.1)
+
+few_heard : (c : After-clock_pulses-events) → c.args.pulses.rtc ≤ pulses_from RTC_HZ c.args.from (c.args.to - c.args.from)
+few_heard c = omega (arith, c.requires.pulses.rtc, heard-few c.args.from c.args.to c.args.self.now.rtc)
+
+pub irq_up-irq-requires-clause-alarm : goal.irq_up-irq-requires-clause-alarm
+irq_up-irq-requires-clause-alarm c = inside (alarms_in c.self.inside.rtc) c.args.pulses.rtc _ c.clock_pulses-events.result.first_alarm
+    (few_heard (goal.at.irq_up-irq-requires-clause-alarm c).After-clock_pulses-events) c.clock_pulses-events.ensures.first_alarm
+
+pub irq_up-irq-requires-clause-update : goal.irq_up-irq-requires-clause-update
+irq_up-irq-requires-clause-update c = inside (updates_in (divider_of c.self.inside.rtc)) c.args.pulses.rtc _ c.clock_pulses-events.result.cycle.first_update
+    (few_heard (goal.at.irq_up-irq-requires-clause-update c).After-clock_pulses-events) c.clock_pulses-events.ensures.first_update
 
 -- the ticks of the 8254 and of the MC146818
 abbrev pit_of : (c : After-clock_pulses-events) → Ticks
@@ -139,9 +175,39 @@ hpet_is : (c : After-clock_pulses-events)
     → c.pulses-reach.new.self ≡ hpet_pulsed_times (pulses_from HPET_HZ c.args.from (c.args.to - c.args.from)) c.self.inside.hpet
 hpet_is c = rw c.requires.pulses.hpet at c.pulses-reach.ensures.state
 
+-- the clock has the pulses that are heard
+taken : (c : After-clock_pulses-events) → c.clock_pulses-events.new.rtc
+    ≡ rtc_pulsed_times (heard_pulses c.args.from c.args.to c.self.inside.rtc) c.self.inside.rtc
+taken c = c.clock_pulses-events.ensures.state
+    ∙ ap (λ (n : ℕ). rtc_pulsed_times n c.self.inside.rtc)
+    (c.requires.pulses.rtc ∙ ap (λ (d : DeviceParts). heard_pulses c.args.from c.args.to d.rtc) (sym c.self.view_is))
+
+abbrev heard_rtc : (c : After-clock_pulses-events) → RtcParts
+heard_rtc c = rtc_pulsed_times (heard_pulses c.args.from c.args.to c.self.inside.rtc) c.self.inside.rtc
+
+valid_rtc : (c : After-clock_pulses-events) → IsRtc (heard_rtc c)
+valid_rtc c = IsRtc-rtc_pulsed_times (heard_pulses c.args.from c.args.to c.self.inside.rtc) c.self.inside.rtc (sound c).rtc
+
+b_heard : (c : After-clock_pulses-events) → register_b (heard_rtc c) ≡ register_b c.self.inside.rtc
+b_heard c = register_b-rtc_pulsed_times (heard_pulses c.args.from c.args.to c.self.inside.rtc) c.self.inside.rtc (sound c).rtc
+
+-- what is left to it changes nothing that joins the devices
+unpassed : (c : After-clock_pulses-events) (d : DeviceParts) → d.hpet ≡ c.pulses-reach.new.self
+    → register_b d.rtc ≡ register_b c.self.inside.rtc → IsRtc d.rtc
+    → IsDevices (passed (left_pulses c.args.from c.args.to c.self.inside.rtc) d) → IsDevices d
+unpassed c d hpet b valid joined = by_test (is_unheard c.self.inside.rtc) refl
+  where
+    by_test : (u : Bool) → is_unheard c.self.inside.rtc ≡ u → IsDevices d
+    by_test false e = subst (λ (n : ℕ). IsDevices (passed n d)) (left-none c.args.from c.args.to c.self.inside.rtc e) joined
+    by_test true e =
+        let n : ℕ = left_pulses c.args.from c.args.to c.self.inside.rtc in
+        let off : pie_of d.rtc ≡ false = ap (bit 6) b ∙ unheard-pie c.self.inside.rtc e in
+        IsDevices-unpassed n d joined (ap (λ (p : Bool). p && not (is_legacy d.hpet)) off)
+        (ap (λ (p : Bool). p && not (is_legacy d.hpet)) (ap (bit 6) (register_b-rtc_pulsed_times n d.rtc valid) ∙ off))
+
 -- where the lines were taken over the stretch
 abbrev pulsed : (c : goal.After-run_timers) → After-clock_pulses-events
-pulsed c = (goal.at.returns c).After-clock_pulses-events
+pulsed c = (goal.at.returns-clause-ran c).After-clock_pulses-events
 
 counts_is : (c : goal.After-run_timers) → c.counts_rtc-counts.result ≡ counts_rtc (parts_of c.self.inside)
 counts_is c = rw (c.counts_rtc-counts.ensures, c.legacy-legacy.ensures, c.shown_of-shown.ensures.pie) refl
@@ -176,8 +242,15 @@ ends c (suc (suc k)) less = ends-timers (known (pulsed c)) c.next_point-point.re
     (λ j past. c.run_timers.ensures.lines.rest j (subst (λ (h : HpetParts). h.timers + 2 ≤ j) (sym (hpet_is (pulsed c))) past))
     c.pulses-reach.ensures.none k (omega arith)
 
+-- the clock, with PF where its line set it
+abbrev flag_of : (c : goal.After-run_timers) → Bool
+flag_of c = c.counts_rtc_up-flag.result
+
+flagged_rtc : (c : goal.After-run_timers) → c.set_flag.new.rtc ≡ flagged_where (flag_of c) (heard_rtc (pulsed c))
+flagged_rtc c = c.set_flag.ensures ∙ ap (flagged_where (flag_of c)) (taken (pulsed c))
+
 -- PF follows its line
-rtc_is : (c : goal.After-run_timers) → c.set_flag.new.rtc
+rtc_is : (c : goal.After-run_timers) → rtc_pulsed_times (left_pulses c.args.from c.args.to c.self.inside.rtc) c.set_flag.new.rtc
     ≡ flagged_where (counts_rtc (parts_of c.self.inside) && (get_or c.run_timers.new.lines 1 no_line).up)
     (rtc_pulsed_times (pulses_from RTC_HZ c.args.from (c.args.to - c.args.from)) c.self.inside.rtc)
 rtc_is c =
@@ -187,25 +260,41 @@ rtc_is c =
     c.counts_rtc_up-flag.ensures
     ∙ ap (λ (b : Bool). b && c.is_up.result) (counts_is c)
     ∙ ap (λ (b : Bool). counts_rtc (parts_of c.self.inside) && b) (c.is_up.ensures ∙ ap (λ (l : TickParts). l.up) one) in
-    c.set_flag.ensures ∙ ap (λ (b : Bool). flagged_where b c.clock_pulses-events.new.rtc) flag
-    ∙ ap (flagged_where (counts_rtc (parts_of c.self.inside) && (get_or c.run_timers.new.lines 1 no_line).up))
-    (rw c.requires.pulses.rtc at c.clock_pulses-events.ensures.state)
+    ap (rtc_pulsed_times (left_pulses c.args.from c.args.to c.self.inside.rtc))
+    (c.set_flag.ensures ∙ ap (λ (b : Bool). flagged_where b c.clock_pulses-events.new.rtc) flag
+    ∙ ap (flagged_where (counts_rtc (parts_of c.self.inside) && (get_or c.run_timers.new.lines 1 no_line).up)) (taken (pulsed c)))
+    ∙ passed-flagged c.args.from c.args.to (counts_rtc (parts_of c.self.inside) && (get_or c.run_timers.new.lines 1 no_line).up) c.self.inside.rtc
+    (λ e. ap (λ (b : Bool). b && (get_or c.run_timers.new.lines 1 no_line).up) (unheard-counts (parts_of c.self.inside) e))
 
 state : (c : goal.After-run_timers)
     → parts_of (record {
       pit = c.pulses-rises.new.self;
-      rtc = c.set_flag.new.rtc;
+      rtc = rtc_pulsed_times (left_pulses c.args.from c.args.to c.self.inside.rtc) c.set_flag.new.rtc;
       hpet = c.pulses-reach.new.self;
       ticks = c.run_timers.new.lines;
       slew_ns = c.self.inside.slew_ns;
     }) ≡ (run c.args.from (c.args.to - c.args.from) (parts_of c.self.inside)).state
-state c = ran-state (known (pulsed c)) c.next_point-point.result c.args.to c.run_timers.new.lines c.pulses-rises.new.self c.set_flag.new.rtc
+state c = ran-state (known (pulsed c)) c.next_point-point.result c.args.to c.run_timers.new.lines c.pulses-rises.new.self
+    (rtc_pulsed_times (left_pulses c.args.from c.args.to c.self.inside.rtc) c.set_flag.new.rtc)
     c.pulses-reach.new.self (point_is (pulsed c)) (end_is (pulsed c)) c.run_timers.ensures.lines.places (ends c)
     (rw c.requires.pulses.pit at c.pulses-rises.ensures.state) (rtc_is c) (hpet_is (pulsed c))
 
-pub invariant_of-self-2 : goal.invariant_of-self-2
-invariant_of-self-2 c = subst IsDevices (sym (state c ∙ run-parted c.args.from (c.args.to - c.args.from) (parts_of c.self.inside) (sound (pulsed c))))
+joined : (c : goal.After-run_timers)
+    → IsDevices (parts_of (record {
+      pit = c.pulses-rises.new.self;
+      rtc = rtc_pulsed_times (left_pulses c.args.from c.args.to c.self.inside.rtc) c.set_flag.new.rtc;
+      hpet = c.pulses-reach.new.self;
+      ticks = c.run_timers.new.lines;
+      slew_ns = c.self.inside.slew_ns;
+    }))
+joined c = subst IsDevices (sym (state c ∙ run-parted c.args.from (c.args.to - c.args.from) (parts_of c.self.inside) (sound (pulsed c))))
     (IsDevices-parted (known (pulsed c)) (c.args.to - c.args.from))
+
+pub invariant_of-self-2 : goal.invariant_of-self-2
+invariant_of-self-2 c = unpassed (pulsed c) _ refl
+    (ap register_b (flagged_rtc c) ∙ register_b-flagged_where (flag_of c) (heard_rtc (pulsed c)) (valid_rtc (pulsed c)) ∙ b_heard (pulsed c))
+    (subst IsRtc (sym (flagged_rtc c)) (IsRtc-flagged_where (flag_of c) (heard_rtc (pulsed c)) (valid_rtc (pulsed c))))
+    (joined c)
 
 -- from when on the lines of the 8254 and of the MC146818 are up
 pit_up : (c : goal.After-run_timers) → c.run_pit-pit_up.result ≡ up_at (known (pulsed c)) 0
@@ -250,9 +339,13 @@ times c =
     ∙ times-are (known (pulsed c)) status before c.run_pit-pit_up.result c.irq_up-irq.result c.legacy-legacy.result (valid (pulsed c))
     (ap (λ (g : HpetParts). g.status) c.parts-status.ensures.parts) (behind c) (pit_up c) (irq_up c) c.legacy-legacy.ensures
 
-pub returns : goal.returns
-returns c = record {
-  state = state c ∙ ap (λ (d : DeviceParts). (run c.args.from (c.args.to - c.args.from) d).state) c.self.view_is;
+-- what a run leaves, by what the devices were
+abbrev leaves : (c : After-clock_pulses-events) → DeviceParts → DeviceParts → Type 0
+leaves c after d = passed (left_pulses c.args.from c.args.to d.rtc) after ≡ (run c.args.from (c.args.to - c.args.from) d).state
+
+pub returns-clause-ran : goal.returns-clause-ran
+returns-clause-ran c = record {
+  state = subst (leaves (pulsed c) _) c.self.view_is (state c);
   levels = λ j le.
       ap (λ (d : DeviceParts). levels (run c.args.from j d).state) (sym c.self.view_is)
       ∙ ran-levels (known (pulsed c)) c.run_timers.new.times (times c) j (omega (arith, le, end_is (pulsed c)));
@@ -261,7 +354,7 @@ returns c = record {
 
 -- where their ticks alone were counted
 abbrev still_pulsed : (c : goal.After-take_matches) → After-clock_pulses-events
-still_pulsed c = (goal.at.returns-then-finds_up c).After-clock_pulses-events
+still_pulsed c = (goal.at.returns-then-finds_up-clause-ran c).After-clock_pulses-events
 
 -- where no line moved: there is room for the ticks
 pub count_ticks-requires-clause-room : goal.count_ticks-requires-clause-room
@@ -329,13 +422,16 @@ still_ends c (suc (suc k)) less = ends-timers (known (still_pulsed c)) c.next_po
     c.pulses-reach.ensures.none k (omega arith)
 
 -- PF follows its line, which is as it was
-still_rtc_is : (c : goal.After-take_matches) → c.clock_pulses-events.new.rtc
+still_rtc_is : (c : goal.After-take_matches)
+    → rtc_pulsed_times (left_pulses c.args.from c.args.to c.self.inside.rtc) c.clock_pulses-events.new.rtc
     ≡ flagged_where (counts_rtc (parts_of c.self.inside) && (get_or c.take_matches.new.lines 1 no_line).up)
     (rtc_pulsed_times (pulses_from RTC_HZ c.args.from (c.args.to - c.args.from)) c.self.inside.rtc)
+unfolding flagged_where
 still_rtc_is c =
     let m : ℕ = pulses_from RTC_HZ c.args.from (c.args.to - c.args.from) in
     let b : Bool = counts_rtc (parts_of c.self.inside) in
-    rw c.requires.pulses.rtc at c.clock_pulses-events.ensures.state
+    ap (rtc_pulsed_times (left_pulses c.args.from c.args.to c.self.inside.rtc)) (taken (still_pulsed c))
+    ∙ passed-flagged c.args.from c.args.to false c.self.inside.rtc (λ e. refl)
     ∙ sym (flag-again b (pf_of c.self.inside.rtc) (ticks_in (divider_of c.self.inside.rtc) m) (rtc_pulsed_times m c.self.inside.rtc)
     (IsRtc-rtc_pulsed_times m c.self.inside.rtc (sound (still_pulsed c)).rtc) (pf_of-rtc_pulsed_times m c.self.inside.rtc (sound (still_pulsed c)).rtc))
     ∙ ap (λ (u : Bool). flagged_where (b && u) (rtc_pulsed_times m c.self.inside.rtc))
@@ -344,18 +440,30 @@ still_rtc_is c =
 still_state : (c : goal.After-take_matches)
     → parts_of (record {
       pit = c.pulses-rises.new.self;
-      rtc = c.clock_pulses-events.new.rtc;
+      rtc = rtc_pulsed_times (left_pulses c.args.from c.args.to c.self.inside.rtc) c.clock_pulses-events.new.rtc;
       hpet = c.pulses-reach.new.self;
       ticks = c.take_matches.new.lines;
       slew_ns = c.self.inside.slew_ns;
     }) ≡ (run c.args.from (c.args.to - c.args.from) (parts_of c.self.inside)).state
 still_state c = ran-state (known (still_pulsed c)) c.next_point-point.result c.args.to c.take_matches.new.lines c.pulses-rises.new.self
-    c.clock_pulses-events.new.rtc c.pulses-reach.new.self (point_is (still_pulsed c)) (end_is (still_pulsed c)) c.take_matches.ensures.places (still_ends c)
+    (rtc_pulsed_times (left_pulses c.args.from c.args.to c.self.inside.rtc) c.clock_pulses-events.new.rtc) c.pulses-reach.new.self (point_is (still_pulsed c)) (end_is (still_pulsed c)) c.take_matches.ensures.places (still_ends c)
     (rw c.requires.pulses.pit at c.pulses-rises.ensures.state) (still_rtc_is c) (hpet_is (still_pulsed c))
 
-pub invariant_of-self : goal.invariant_of-self
-invariant_of-self c = subst IsDevices (sym (still_state c ∙ run-parted c.args.from (c.args.to - c.args.from) (parts_of c.self.inside) (sound (still_pulsed c))))
+still_joined : (c : goal.After-take_matches)
+    → IsDevices (parts_of (record {
+      pit = c.pulses-rises.new.self;
+      rtc = rtc_pulsed_times (left_pulses c.args.from c.args.to c.self.inside.rtc) c.clock_pulses-events.new.rtc;
+      hpet = c.pulses-reach.new.self;
+      ticks = c.take_matches.new.lines;
+      slew_ns = c.self.inside.slew_ns;
+    }))
+still_joined c = subst IsDevices (sym (still_state c ∙ run-parted c.args.from (c.args.to - c.args.from) (parts_of c.self.inside) (sound (still_pulsed c))))
     (IsDevices-parted (known (still_pulsed c)) (c.args.to - c.args.from))
+
+pub invariant_of-self : goal.invariant_of-self
+invariant_of-self c = unpassed (still_pulsed c) _ refl (ap register_b (taken (still_pulsed c)) ∙ b_heard (still_pulsed c))
+    (subst IsRtc (sym (taken (still_pulsed c))) (valid_rtc (still_pulsed c)))
+    (still_joined c)
 
 -- a timer that matches is there
 there : (c : goal.After-take_matches) (k : ℕ) → 0 < (timer_matches c.pulses-reach.new.matches k).count → k < c.pulses-reach.new.self.timers
@@ -387,7 +495,7 @@ found c zero less some =
 found c (suc zero) less some =
     let due : (counts_rtc (parts_of c.self.inside) ≡ true)
     × (0 < ticks_in (divider_of c.self.inside.rtc) (pulses_from RTC_HZ c.args.from (c.args.to - c.args.from))) = some_where _ _ some in
-    absurd (omega (arith, due.1, (brought (still_pulsed c)).rtc_count, still_ticks c))
+    absurd (omega (arith, due.1, (brought (still_pulsed c)).rtc_count due.0, still_ticks c))
 found c (suc (suc k)) less some =
     let due : (has_ticks k c.self.inside.hpet ≡ true)
     × (0 < matches_of k c.self.inside.hpet (pulses_from HPET_HZ c.args.from (c.args.to - c.args.from))) = some_where _ _ some in
@@ -415,18 +523,48 @@ quiet c = record {
   sound = sound (still_pulsed c);
   point = (known (still_pulsed c)).point;
   early = omega (arith, early c, c.next_point-point.ensures, c.requires.stretch.order);
-  ticks = sym (brought (still_pulsed c)).rtc_count ∙ still_ticks c;
-  updates = sym (rw c.requires.pulses.rtc at c.clock_pulses-events.ensures.updates) ∙ still_updates c;
+  clock = by_test (is_unheard c.self.inside.rtc) refl;
   found = found c;
   level = λ k less. level c k;
 }
+  where
+    by_test : (u : Bool) → is_unheard c.self.inside.rtc ≡ u → (is_unheard c.self.inside.rtc ≡ true)
+        ⊎ ((ticks_in (divider_of c.self.inside.rtc) (pulses_from RTC_HZ c.args.from (c.args.to - c.args.from)) ≡ 0)
+        × (updates_in (divider_of c.self.inside.rtc) (pulses_from RTC_HZ c.args.from (c.args.to - c.args.from)) ≡ 0))
+    by_test true e = inl e
+    by_test false e = inr (
+      sym (rw (heard (still_pulsed c) e) at c.clock_pulses-events.ensures.ticks) ∙ still_ticks c,
+      sym (rw (heard (still_pulsed c) e) at c.clock_pulses-events.ensures.updates) ∙ still_updates c,
+    )
 
-pub returns-then-finds_up : goal.returns-then-finds_up
-returns-then-finds_up c = record {
-  state = still_state c ∙ ap (λ (d : DeviceParts). (run c.args.from (c.args.to - c.args.from) d).state) c.self.view_is;
+pub returns-then-finds_up-clause-ran : goal.returns-then-finds_up-clause-ran
+returns-then-finds_up-clause-ran c = record {
+  state = subst (leaves (still_pulsed c) _) c.self.view_is (still_state c);
   levels = λ j le.
       ap (λ (d : DeviceParts). levels (run c.args.from j d).state) (sym c.self.view_is) ∙ levels-still (quiet c) j (omega (arith, le, c.requires.stretch.order))
       ∙ ap levels c.self.view_is;
   due = λ k less. rw (← c.self.view_is)
       (due-few (known (still_pulsed c)) c.next_point-point.result c.args.to c.take_matches.new.lines (still_ends c) k less);
 }
+
+-- the conditions hold when the clock has what is left to it
+abbrev joins : (c : After-clock_pulses-events) → DeviceParts → DeviceParts → Type 0
+joins c after d = IsDevices (passed (left_pulses c.args.from c.args.to d.rtc) after)
+
+pub returns-clause-joined : goal.returns-clause-joined
+returns-clause-joined c = subst (joins (pulsed c) (parts_of (record {
+  pit = c.pulses-rises.new.self;
+  rtc = c.set_flag.new.rtc;
+  hpet = c.pulses-reach.new.self;
+  ticks = c.run_timers.new.lines;
+  slew_ns = c.self.inside.slew_ns;
+}))) c.self.view_is (joined c)
+
+pub returns-then-finds_up-clause-joined : goal.returns-then-finds_up-clause-joined
+returns-then-finds_up-clause-joined c = subst (joins (still_pulsed c) (parts_of (record {
+  pit = c.pulses-rises.new.self;
+  rtc = c.clock_pulses-events.new.rtc;
+  hpet = c.pulses-reach.new.self;
+  ticks = c.take_matches.new.lines;
+  slew_ns = c.self.inside.slew_ns;
+}))) c.self.view_is (still_joined c)
