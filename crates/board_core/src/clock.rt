@@ -15,6 +15,8 @@ use tsc_scale::Tsc;
 
 impl BoardState {
     /// What a read of the page of `cpu` at count `h` answers. It moves no time and takes no number.
+    // Inlined, a reading of the clock moves no page through memory.
+    #[inline(always)]
     pub fn page_of(&self, cpu: u8, h: u64) -> Result<PageReply, TimeFault>
         requires { cpu < self.now.cpus }
         ensures { IsPageRead self.now cpu h result }
