@@ -98,20 +98,7 @@ passed-flagged from to b r quiet = by_test (is_unheard r) refl
     by_test true e = rw (heard-none from to r e, left-all from to r e, quiet e) refl
     by_test false e = rw (heard-all from to r e, left-none from to r e) refl
 
--- no pulse more
-pub passed-none : (d : DeviceParts) → passed 0 d ≡ d
-passed-none d = refl
-
 -- the devices are joined before the pulses that are left as they are after them
-pub IsDevices-passed : (n : ℕ) (d : DeviceParts) → IsDevices d → counts_rtc d ≡ false → counts_rtc (passed n d) ≡ false → IsDevices (passed n d)
-IsDevices-passed n d joined none after = record {
-  places = joined.places;
-  slew_low = joined.slew_low;
-  slew_high = joined.slew_high;
-  flag = rw after (rw none at joined.flag);
-  timer_lines = joined.timer_lines;
-}
-
 pub IsDevices-unpassed : (n : ℕ) (d : DeviceParts) → IsDevices (passed n d) → counts_rtc d ≡ false → counts_rtc (passed n d) ≡ false → IsDevices d
 IsDevices-unpassed n d joined none after = record {
   places = joined.places;
