@@ -51,7 +51,7 @@ fn is_counted(board: &Board, cpu: u8, host: u64, access: Access) -> bool
     is_passive(access) && board.state.counts(&board.lag, host)
 }
 
-/// The answer to an access that isn't.
+/// The answer to an access that isn't only counted.
 #[inline(always)]
 fn refuse_or_run(board: &mut Board, cpu: u8, host: u64, access: Access, reply: &mut ReplyWords)
     ensures { IsCalled board.old board.new reply.old reply.new cpu host access }
