@@ -15,6 +15,8 @@ ghost use Rattle.std.specs.Prelude.{
   true,
   false,
   codes,
+  IfSome,
+  OnSome,
   IfOk,
   OnOk,
   OnErr,
@@ -23,7 +25,7 @@ ghost use Rattle.std.specs.Prelude.{
 ghost use Rattle.std.specs.Str.{bytes_eq};
 ghost use Rattle.std.specs.Prelude.{map};
 ghost use lib.Lanes.{mask_l};
-ghost use Rattle.memchr.specs.Find.{IsFirstByte, is_byte};
+ghost use Rattle.memchr.specs.Find.{is_byte};
 ghost use Rattle.std.specs.Io.KnownBytes.{Consumes, IsAtEnd};
 ghost use Rattle.board_io.specs.Faults.{Rose, most_given, AddsGiven, gave_nothing};
 ghost use Rattle.trace_loop.specs.Progress.{limit_of};
@@ -139,9 +141,28 @@ impl Lines {
         &self.kept
     }
 
-    /// Goes on to the next line, if one ends in what was taken, or is too long.
+    /// Goes on to the next line, if one ends in what was taken, or is too long. Most lines are short, and lie whole in a
+    /// piece.
     #[inline(always)]
     pub(crate) fn advance(&mut self) -> Result<bool, NoMemory>
+        requires room { self.old.number < 2 ^ 63 }
+        ensures line { IfOk result (λ found. found ≡ true → IsLine self.old self.new) }
+        ensures whole { IfOk result (λ found. found ≡ false → IsWhole self.old self.new) }
+        ensures err { OnErr result (0 < length self.old.left) }
+    {
+        match self.near_end() {
+            Some(n) => {
+                self.hand_out_slice(n);
+                self.skip();
+                Ok(true)
+            }
+            None => self.advance_far(),
+        }
+    }
+
+    /// The same for any line.
+    #[inline(never)]
+    fn advance_far(&mut self) -> Result<bool, NoMemory>
         requires room { self.old.number < 2 ^ 63 }
         ensures line { IfOk result (λ found. found ≡ true → IsLine self.old self.new) }
         ensures whole { IfOk result (λ found. found ≡ false → IsWhole self.old self.new) }
@@ -165,13 +186,33 @@ impl Lines {
         }
     }
 
+    /// How many bytes the present line has, if it begins with those that are left, and ends in the first 32 of them.
+    #[inline(always)]
+    fn near_end(&self) -> Option<usize>
+        ensures whole { OnSome result (self.now.text ≡ []) }
+        ensures end { IfSome result (λ n. IsFound self.now.text self.now.left (Found.End n)) }
+    {
+        if !self.kept.is_empty() {
+            return None;
+        }
+        let rest = &self.piece[self.from..self.to];
+        if rest.len() < 32 {
+            return None;
+        }
+        let ends = ends_in(rest);
+        if ends == 0 {
+            return None;
+        }
+        Some(ends.trailing_zeros() as usize)
+    }
+
     /// Where the present line stops in the bytes that are left.
     #[inline(always)]
     fn find(&self) -> Found
         ensures { IsFound self.now.text self.now.left result }
     {
         let rest = &self.piece[self.from..self.to];
-        let end = first_end(rest);
+        let end = memchr(b'\n', rest);
         let n = end.unwrap_or(rest.len());
         let limit = limit_met(&self.kept, &rest[..n]);
         if self.kept.len() + n > limit {
@@ -297,20 +338,6 @@ fn append_part(out: &mut Vec<u8>, piece: &[u8], from: usize, to: usize) -> Resul
     ensures err { OnErr result (out.new.items ≡ out.old.items) }
 {
     append(out, &piece[from..to])
-}
-
-/// Where the first line's end is in the bytes of a piece. Most lines are short, so a few bytes are looked at first, at once.
-#[inline(always)]
-fn first_end(rest: &[u8]) -> Option<usize>
-    ensures { IsFirstByte (is_byte 10) rest.now result }
-{
-    if rest.len() >= 32 {
-        let ends = ends_in(rest);
-        if ends != 0 {
-            return Some(ends.trailing_zeros() as usize);
-        }
-    }
-    memchr(b'\n', rest)
 }
 
 /// Which of the first 32 bytes are ends of lines, a bit each.

@@ -1,6 +1,7 @@
 pub mod Numbers
 pub mod HexValues
 pub mod Spells
+pub mod Eights
 pub mod FirstWord
 pub mod Tokens
 pub mod ShortWords
@@ -12,3 +13,4 @@ pub mod Limits
 pub mod NoRecord
 pub mod UsualRows
 pub mod Ports
+pub mod Fronts

@@ -2,6 +2,9 @@
 ghost use Rattle.std.specs.Prelude.{
   ◌≡◌,
   ◌≢◌,
+  ℕ,
+  List,
+  ◌%◌,
   ◌+◌,
   ◌-◌,
   ◌*◌,
@@ -12,20 +15,27 @@ ghost use Rattle.std.specs.Prelude.{
   ◌&&◌,
   nat_lt,
   slice_index,
+  take,
   drop,
   length,
   Option,
   Some,
   None,
   IfSome,
+  IfOk,
+  IfErr,
   MatchOption,
   true,
 };
 ghost use Rattle.std.specs.Bool.{OnTrue};
 ghost use Rattle.std.specs.Char.{digit_value};
+ghost use Rattle.std.specs.Int.Digits.{number_from_digits, AllBelowBase};
 ghost use Rattle.std.specs.Option.{SomeIff};
 ghost use Rattle.board_types.specs.Legal.{is_port};
-ghost use Rattle.trace_text.specs.private.Spelled.{spelled, after_word, words_from};
+ghost use Rattle.trace_text.specs.private.Spelled.{spelled, after_word, words_from, AreDigits};
+ghost use lib.Lanes.{number_l};
+
+use std::simd::prelude::*;
 
 /// What a word spells.
 #[derive(Clone, Copy)]
@@ -78,7 +88,16 @@ pub(crate) struct Spelling {
 const NO_SPELLING: Spelling = Spelling { value: 0, end: 0 };
 
 /// How many digits are read without a test of the line's end.
-const MANY_DIGITS: usize = 10;
+const MANY_DIGITS: usize = 12;
+
+/// The digit 0 in each byte of a word.
+const ZEROS: u64 = 0x3030_3030_3030_3030;
+
+/// What takes each byte above the digit 9 to 128 or more, and leaves a digit below.
+const ABOVE_NINES: u64 = 0x4646_4646_4646_4646;
+
+/// The highest bit of each byte of a word.
+const HIGH_BITS: u64 = 0x8080_8080_8080_8080;
 
 /// How many digits of a base of at most 16 spell a number below 2^64, whichever they are.
 const DIGITS_THAT_FIT: usize = 16;
@@ -262,6 +281,50 @@ fn few_digits_apart(line: &[u8], at: usize) -> Spelling
     }
 }
 
+/// Eight bytes of a line as one word, the first of them in its lowest byte. They are loaded at once.
+#[inline(always)]
+fn word_at(line: &[u8], at: usize) -> u64
+    requires { at + 8 ≤ length line.now }
+    ensures { result ≡ number_l 256 (take 8 (drop at line.now)) % 2 ^ 64 }
+{
+    u64x1::from_le_bytes(u8x8::from_slice(&line[at..])).to_array()[0]
+}
+
+/// The number of the eight digits in the bytes of a word, the first of them in its lowest byte: two digits are joined
+/// at a time, then two pairs, then the halves.
+#[inline(always)]
+fn joined(digits: u64) -> u64
+    ensures { (ds : List ℕ) → length ds ≡ 8 → AllBelowBase 10 ds → digits ≡ number_l 256 ds
+        → result ≡ number_from_digits 10 ds }
+{
+    let pairs = (digits.wrapping_mul(2561) >> 8) & 0x00ff_00ff_00ff_00ff;
+    let halves = (pairs.wrapping_mul(6_553_601) >> 16) & 0x0000_ffff_0000_ffff;
+    halves.wrapping_mul(42_949_672_960_001) >> 32
+}
+
+/// The decimal digits that the eight bytes at a place of a line begin with: the number of all eight, or as an `Err` that
+/// of the fewer before another byte. All are read as one word, without a branch for each.
+#[inline(always)]
+fn eight_digits_at(line: &[u8], at: usize) -> Result<u64, Spelling>
+    requires { at + 8 ≤ length line.now }
+    ensures eight { IfOk result (λ n. AreDigits line.now at (at + 8) n) }
+    ensures fewer { IfErr result
+        (λ s. (at ≤ s.end) × (s.end < at + 8) × AreDigits line.now at s.end s.value) }
+{
+    let word = word_at(line, at);
+    let digits = word.wrapping_sub(ZEROS);
+    let others = (word.wrapping_add(ABOVE_NINES) | digits) & HIGH_BITS;
+    if others == 0 {
+        return Ok(joined(digits));
+    }
+    let count = others.trailing_zeros() / 8;
+    let last = digits << (56 - 8 * count) << 8;
+    Err(Spelling {
+        value: joined(last),
+        end: at + count as usize,
+    })
+}
+
 /// The same for a number of many digits: the first of them are read without a test of the line's end.
 #[inline(always)]
 pub(crate) fn decimal_at(line: &[u8], at: usize) -> Option<Spelling>
@@ -275,11 +338,21 @@ pub(crate) fn decimal_at(line: &[u8], at: usize) -> Option<Spelling>
     if line.len() < MANY_DIGITS || line.len() - MANY_DIGITS < at {
         return few_digits_at(line, at);
     }
-    let mut n = decimal_digit_of(line[at]);
-    if n == 0 || n >= 10 {
+    let first = decimal_digit_of(line[at]);
+    if first == 0 || first >= 10 {
         return None;
     }
-    for k in 1..MANY_DIGITS {
+    let mut n = match eight_digits_at(line, at) {
+        Ok(n) => n,
+        Err(fewer) => {
+            return if line[fewer.end] == b' ' {
+                Some(fewer)
+            } else {
+                None
+            };
+        }
+    };
+    for k in 8..MANY_DIGITS {
         let byte = line[at + k];
         let digit = decimal_digit_of(byte);
         if digit >= 10 {

@@ -1,8 +1,13 @@
 -- A line read byte by byte.
 use Rattle.std.specs.Prelude.{
   ℕ,
+  ◌≡◌,
   ◌+◌,
+  ◌-◌,
   ◌*◌,
+  ◌^◌,
+  ◌<◌,
+  ◌≤◌,
   ◌==◌,
   nat_eq,
   nat_lt,
@@ -42,6 +47,14 @@ spelled base count n (c ∷ cs) =
     else if nat_lt (digit_value c) base && nat_lt (n * base + digit_value c) 18446744073709551616
     then spelled base (count + 1) (n * base + digit_value c) cs
     else None
+
+-- the bytes from a place of a line up to another are decimal digits, which spell this number, also after others that
+-- spell one that is not too large
+abbrev pub AreDigits : List ℕ → ℕ → ℕ → ℕ → Type 0
+AreDigits line at end n =
+    (n < 10 ^ (end - at))
+    × ((count read : ℕ) → (read + 1) * 10 ^ (end - at) ≤ 18446744073709551616
+    → spelled 10 count read (drop at line) ≡ spelled 10 (count + (end - at)) (read * 10 ^ (end - at) + n) (drop end line))
 
 -- the words after a first word that is this one
 unfoldable pub after_word : List ℕ → List ℕ → Option (List (List ℕ))

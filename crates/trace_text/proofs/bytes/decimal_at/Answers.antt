@@ -1,17 +1,35 @@
-use Rattle.std.proofs.Common.{◌≡◌, ℕ, ◌+◌, ◌-◌, ◌*◌, ◌<◌, length, get_or, ap, ◌∙◌, arith}
+use Rattle.std.proofs.Common.{◌≡◌, ℕ, ◌+◌, ◌-◌, ◌<◌, length, get_or, ap, ◌∙◌, inl, inr, arith}
+use Rattle.std.proofs.lemmas.Bool.{cases_lt}
 use Rattle.std.specs.Char.{digit_value}
 use Rattle.trace_text.proofs.Spells.{decimal_more, digits_fit, spelled-space}
+use Rattle.trace_text.proofs.Eights.{eight_first, fewer_first}
 use Rattle.trace_text.proofs.bytes.decimal_at.Goals as goal
 
 pub loop-k-init : goal.loop-k-init
-loop-k-init c =
+loop-k-init c = eight_first c.args.line.now c.args.at c.in-Ok.n c.in-Ok.ensures.eight
+
+pub returns-then-line-fewer-eq32 : goal.returns-then-line-fewer-eq32
+returns-then-line-fewer-eq32 c =
     let at : ℕ = c.args.at in
-    let digit : ℕ = c.decimal_digit_of-n.result in
-    let zero : at + 0 ≡ at = omega arith in
-    let same : digit_value (get_or c.args.line.now (at + 0) 0) ≡ digit = rw zero (c.decimal_digit_of-n.ensures.digit (omega arith)) in
-    let total : 0 * 10 + digit ≡ digit = omega arith in
-    let more = decimal_more at 0 0 digit c.args.line.now (omega arith) (omega arith) same (omega arith) (omega arith) in
-    (rw (zero, total) at more.0, omega arith)
+    let end : ℕ = c.in-Err.fewer.end in
+    let first : ℕ = get_or c.args.line.now at 0 in
+    let read = c.in-Err.ensures.fewer in
+    let digit : digit_value first ≡ c.decimal_digit_of-first.result = c.decimal_digit_of-first.ensures.digit (omega arith) in
+    let other : first ≡ 48 → ⊥ = λ e. absurd (let value_of : digit_value first ≡ 0 = ap digit_value e in omega arith) in
+    let inside : end < length c.args.line.now = omega (arith, read.1) in
+    let later : at < end = elim (cases_lt at end) [
+      | inl less ↦ less
+      | inr ge ↦ absurd (
+        let same : end ≡ at = omega (arith, read.0) in
+        let space : first ≡ 32 = rw same at c.if-line-fewer-eq32.true in
+        let value_of : digit_value first ≡ 36 = ap digit_value space in
+        omega arith)
+    ] in (
+      later,
+      omega arith,
+      other,
+      fewer_first c.args.line.now at end c.in-Err.fewer.value read.0 read.1 inside read.2 c.if-line-fewer-eq32.true,
+    )
 
 pub returns-then-byte-eq32 : goal.returns-then-byte-eq32
 returns-then-byte-eq32 c =
@@ -20,7 +38,7 @@ returns-then-byte-eq32 c =
     let first : ℕ = get_or c.args.line.now at 0 in
     let inside : at + k < length c.args.line.now = omega arith in
     let other : first ≡ 48 → ⊥ = λ e. absurd
-    (let value_of : digit_value first ≡ 0 = ap digit_value e in omega (arith, c.decimal_digit_of-n.ensures.digit (omega arith))) in
+    (let value_of : digit_value first ≡ 0 = ap digit_value e in omega (arith, c.decimal_digit_of-first.ensures.digit (omega arith))) in
     let count : at + k - at ≡ k = omega arith in
     let space = spelled-space 10 k c.loop-k.n (at + k) c.args.line.now inside c.if-byte-eq32.true in
     (omega arith, omega arith, other, rw count (c.loop-k.invariant.0 ∙ space))

@@ -20,7 +20,7 @@ same : (c : After-limit_met-limit) → ◌≡◌ {A = List ℕ × List ℕ} (kep
 same c = λ i. ((c.self.view_is i).text, (c.self.view_is i).left)
 
 most : (c : After-limit_met-limit) → c.unwrap_or-n.result ≤ length (rest c)
-most c = omega (arith, c.unwrap_or-n.ensures, found_within (rest c) c.first_end-end.result c.first_end-end.ensures)
+most c = omega (arith, c.unwrap_or-n.ensures, found_within (rest c) c.memchr-end.result c.memchr-end.ensures)
 
 least : (c : After-limit_met-limit) → c.limit_met-limit.result ≤ limit_of (kept c ++ take c.unwrap_or-n.result (rest c))
 least c = subst (λ (t : List ℕ). c.limit_met-limit.result ≤ limit_of (t ++ take c.unwrap_or-n.result (rest c))) c.deref.ensures.value
@@ -65,7 +65,7 @@ returns-then-len-n c =
     (omega (arith, all, grows, over c, limit_least (xs ++ take N ys))) in
     subst (λ (z : List ℕ × List ℕ). IsFound z.0 z.1 (Excess n)) (same (met c)) (
       omega (arith, low, most (met c)),
-      no_end_found ys c.first_end-end.result n c.first_end-end.ensures (omega (arith, low, c.unwrap_or-n.ensures)),
+      no_end_found ys c.memchr-end.result n c.memchr-end.ensures (omega (arith, low, c.unwrap_or-n.ensures)),
       omega (arith, part, over c, all, grows),
     )
 
@@ -75,11 +75,11 @@ returns-in-Some c =
     let xs = kept d in
     let ys = rest d in
     let n : ℕ = c.in-Some.n in
-    let at = found_at ys c.first_end-end.result n c.first_end-end.ensures c.in-Some.is in
-    let is : unwrap_or c.first_end-end.result (length ys) ≡ n = ap (λ o. unwrap_or o (length ys)) c.in-Some.is in
+    let at = found_at ys c.memchr-end.result n c.memchr-end.ensures c.in-Some.is in
+    let is : unwrap_or c.memchr-end.result (length ys) ≡ n = ap (λ o. unwrap_or o (length ys)) c.in-Some.is in
     subst (λ (z : List ℕ × List ℕ). IsFound z.0 z.1 (End n)) (same d) (
       at.0,
-      no_end_found ys c.first_end-end.result n c.first_end-end.ensures (omega (arith, is)),
+      no_end_found ys c.memchr-end.result n c.memchr-end.ensures (omega (arith, is)),
       at.1,
       subst (λ (m : ℕ). length xs + m ≤ limit_of (xs ++ take m ys)) (c.unwrap_or-n.ensures ∙ is)
           (omega (arith, least d, c.if-len-n.false, c.len.ensures, c.self.inside.kept.ok.0)),
@@ -90,10 +90,10 @@ returns-in-None c =
     let d = (goal.at.returns-in-None c).After-limit_met-limit in
     let xs = kept d in
     let ys = rest d in
-    let is : unwrap_or c.first_end-end.result (length ys) ≡ length ys = ap (λ o. unwrap_or o (length ys)) c.in-None.is in
+    let is : unwrap_or c.memchr-end.result (length ys) ≡ length ys = ap (λ o. unwrap_or o (length ys)) c.in-None.is in
     subst (λ (z : List ℕ × List ℕ). IsFound z.0 z.1 Nothing) (same d)
     (subst (λ (l : List ℕ). HasNoEnd l × (length xs + length ys ≤ limit_of (xs ++ l))) (take_all (length ys) ys (omega arith)) (
-      no_end_found ys c.first_end-end.result (length ys) c.first_end-end.ensures (omega (arith, is)),
+      no_end_found ys c.memchr-end.result (length ys) c.memchr-end.ensures (omega (arith, is)),
       subst (λ (m : ℕ). length xs + m ≤ limit_of (xs ++ take m ys)) (c.unwrap_or-n.ensures ∙ is)
           (omega (arith, least d, c.if-len-n.false, c.len.ensures, c.self.inside.kept.ok.0)),
     ))

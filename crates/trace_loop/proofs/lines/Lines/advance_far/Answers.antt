@@ -4,7 +4,7 @@ use Rattle.std.proofs.lemmas.List.{length-take-le}
 use Rattle.std.proofs.Common.{◌≡◌, ℕ, ◌<◌, ◌≤◌, List, ◌++◌, length, take, refl, ap, ◌∙◌, subst, arith, length-append}
 use Rattle.trace_loop.specs.Cut.{Cut}
 use Rattle.trace_loop.proofs.Written.{on_err_from}
-use Rattle.trace_loop.proofs.lines.Lines.advance.Goals as goal
+use Rattle.trace_loop.proofs.lines.Lines.advance_far.Goals as goal
 
 pub returns-in_err-hand_out-in-Excess-clause-err : goal.returns-in_err-hand_out-in-Excess-clause-err
 returns-in_err-hand_out-in-Excess-clause-err c =
