@@ -1,6 +1,7 @@
 //! What most records do, read where a line is answered: `in`, `out`, `step`, `clock`, `ack` and `hr`, as programs write
 //! them.
-ghost use Rattle.std.specs.Prelude.{◌≡◌, ◌++◌, [], Ok, IfSome};
+ghost use Rattle.std.specs.Prelude.{◌≡◌, ◌≤◌, ◌%◌, ◌^◌, ◌++◌, [], length, take, Ok, IfSome};
+ghost use lib.Lanes.{number_l};
 ghost use Rattle.trace_text.specs.Tokens.{words_of};
 ghost use Rattle.trace_text.specs.Records.{job_of, in_row, out_row, hr_row, line_row, page_row, IsJob};
 
@@ -8,6 +9,15 @@ use crate::jobs::act;
 use crate::records::{Body, Call, Job};
 use crate::words::Words;
 use board_types::{Access, is_hpet_place, is_line};
+use std::simd::prelude::*;
+
+/// How the records begin that are read here, each as one word with the first byte lowest: `in `, `step`, `ack `, `out `
+/// and the front of `clock `.
+const IN: u32 = 0x20_6e69;
+const STEP: u32 = 0x7065_7473;
+const ACK: u32 = 0x206b_6361;
+const OUT: u32 = 0x2074_756f;
+const CLOC: u32 = 0x636f_6c63;
 
 /// What most records do, by the bytes after the counter; None also for what others do. It is small, so that the answer to
 /// a line is inlined in the loop over the lines.
@@ -16,29 +26,32 @@ pub(crate) fn usual_job(body: &Body, left: &[u8]) -> Option<Job>
     ensures job { IfSome result (λ j. job_of body.now (words_of left.now) ≡ Ok j) }
     ensures valid { IfSome result (IsJob body.now) }
 {
-    match left {
-        [b'i', ..] => {
-            let port = after(left, b"in ")?;
-            usual_in(body, &mut Words::new(port))
-        }
-        [b'o', ..] => {
-            let port = after(left, b"out ")?;
-            usual_out(body, &mut Words::new(port))
-        }
-        [b's', ..] => {
-            let more = after(left, b"step")?;
-            usual_step(more)
-        }
-        [b'c', ..] => {
-            let page = after(left, b"clock ")?;
+    if left.len() < 4 {
+        return None;
+    }
+    let front = first_four(left);
+    if front % 0x100_0000 == IN {
+        return usual_in(body, &mut Words::new(&left[3..]));
+    }
+    match front {
+        STEP => usual_step(&left[4..]),
+        ACK => usual_ack(body, &mut Words::new(&left[4..])),
+        OUT => usual_out(body, &mut Words::new(&left[4..])),
+        CLOC => {
+            let page = after(&left[4..], b"k ")?;
             usual_clock(body, &mut Words::new(page))
-        }
-        [b'a', ..] => {
-            let line = after(left, b"ack ")?;
-            usual_ack(body, &mut Words::new(line))
         }
         _ => None,
     }
+}
+
+/// The first four bytes of a text as one word, the first of them in its lowest byte. They are loaded at once.
+#[inline(always)]
+fn first_four(text: &[u8]) -> u32
+    requires { 4 ≤ length text.now }
+    ensures { result ≡ number_l 256 (take 4 text.now) % 2 ^ 32 }
+{
+    u32x1::from_le_bytes(u8x4::from_slice(text)).to_array()[0]
 }
 
 /// A read of the HPET, by the bytes after the counter; None also for what others do.

@@ -1,29 +1,52 @@
-use Rattle.std.proofs.Common.{codes}
+use Rattle.std.proofs.Common.{◌≡◌, ℕ, ◌-◌, ◌%◌, List, length, take, drop, codes, sym, ap, ◌∙◌, arith}
 use Rattle.board_types.specs.declared.access.Access.TheVariants.{Ack}
 use Rattle.trace_text.specs.Records.{in_row, out_row, line_row, page_row}
 use Rattle.trace_text.specs.declared.records.Call.TheVariants.{ReadClock}
+use Rattle.trace_text.proofs.Fronts.{in_front, step_front, ack_front, out_front, clock_front, sliced, all_left}
 use Rattle.trace_text.proofs.UsualRows.{in_first, out_first, clock_first, ack_first, by_row, by_step}
 use Rattle.trace_text.proofs.usual.usual_job.Goals as goal
 
-pub returns-in_ok-port-in-105-clause-job : goal.returns-in_ok-port-in-105-clause-job
-returns-in_ok-port-in-105-clause-job c =
-    by_row (in_row c.args.body.now) c.args.body.now (codes "in ") c.args.left.now c.in_ok-port-in-105.port.now c.new.result c.usual_in.result
-    (in_first c.args.body.now) c.in_ok-port-in-105.ensures c.new.ensures c.usual_in.ensures.job
+-- the bytes after some of them
+abbrev after : ℕ → List ℕ → List ℕ
+after n left = take (length left - n) (drop n left)
 
-pub returns-in_ok-port-in-111-clause-job : goal.returns-in_ok-port-in-111-clause-job
-returns-in_ok-port-in-111-clause-job c =
-    by_row (out_row c.args.body.now) c.args.body.now (codes "out ") c.args.left.now c.in_ok-port-in-111.port.now c.new-in-111.result c.usual_out.result
-    (out_first c.args.body.now) c.in_ok-port-in-111.ensures c.new-in-111.ensures c.usual_out.ensures.job
+pub returns-then-front-eq-IN-clause-job : goal.returns-then-front-eq-IN-clause-job
+returns-then-front-eq-IN-clause-job c =
+    let left : List ℕ = c.args.left.now in
+    let word = ap (λ (n : ℕ). n % 16777216) (sym c.first_four-front.ensures) ∙ c.if-front-eq-IN.true in
+    let begins = sliced 3 (codes "in ") left (omega arith) (in_front left (λ j. (c.type_inv.left j).fits) c.if-left-lt4.false word) in
+    by_row (in_row c.args.body.now) c.args.body.now (codes "in ") left (after 3 left) c.new.result c.usual_in.result
+    (in_first c.args.body.now) begins c.new.ensures c.usual_in.ensures.job
 
-pub returns-in_ok-page-in-99-clause-job : goal.returns-in_ok-page-in-99-clause-job
-returns-in_ok-page-in-99-clause-job c =
-    by_row (page_row c.args.body.now ReadClock) c.args.body.now (codes "clock ") c.args.left.now c.in_ok-page-in-99.page.now c.new-in-99.result c.usual_clock.result
-    (clock_first c.args.body.now) c.in_ok-page-in-99.ensures c.new-in-99.ensures c.usual_clock.ensures.job
+pub returns-in-1885697139-clause-job : goal.returns-in-1885697139-clause-job
+returns-in-1885697139-clause-job c =
+    let left : List ℕ = c.args.left.now in
+    let word = sym c.first_four-front.ensures ∙ c.in-1885697139.is in
+    let begins = sliced 4 (codes "step") left (omega arith) (step_front left (λ j. (c.type_inv.left j).fits) c.if-left-lt4.false word) in
+    by_step c.args.body.now left (after 4 left) c.usual_step.result begins c.usual_step.ensures.job
 
-pub returns-in_ok-line-in-97-clause-job : goal.returns-in_ok-line-in-97-clause-job
-returns-in_ok-line-in-97-clause-job c =
-    by_row (line_row c.args.body.now Ack) c.args.body.now (codes "ack ") c.args.left.now c.in_ok-line-in-97.line.now c.new-in-97.result c.usual_ack.result
-    (ack_first c.args.body.now) c.in_ok-line-in-97.ensures c.new-in-97.ensures c.usual_ack.ensures.job
+pub returns-in-543908705-clause-job : goal.returns-in-543908705-clause-job
+returns-in-543908705-clause-job c =
+    let left : List ℕ = c.args.left.now in
+    let word = sym c.first_four-front.ensures ∙ c.in-543908705.is in
+    let begins = sliced 4 (codes "ack ") left (omega arith) (ack_front left (λ j. (c.type_inv.left j).fits) c.if-left-lt4.false word) in
+    by_row (line_row c.args.body.now Ack) c.args.body.now (codes "ack ") left (after 4 left) c.new-in-543908705.result c.usual_ack.result
+    (ack_first c.args.body.now) begins c.new-in-543908705.ensures c.usual_ack.ensures.job
 
-pub returns-in_ok-more-in-115-clause-job : goal.returns-in_ok-more-in-115-clause-job
-returns-in_ok-more-in-115-clause-job c = by_step c.args.body.now c.args.left.now c.in_ok-more-in-115.more.now c.usual_step.result c.in_ok-more-in-115.ensures c.usual_step.ensures.job
+pub returns-in-544503151-clause-job : goal.returns-in-544503151-clause-job
+returns-in-544503151-clause-job c =
+    let left : List ℕ = c.args.left.now in
+    let word = sym c.first_four-front.ensures ∙ c.in-544503151.is in
+    let begins = sliced 4 (codes "out ") left (omega arith) (out_front left (λ j. (c.type_inv.left j).fits) c.if-left-lt4.false word) in
+    by_row (out_row c.args.body.now) c.args.body.now (codes "out ") left (after 4 left) c.new-in-544503151.result c.usual_out.result
+    (out_first c.args.body.now) begins c.new-in-544503151.ensures c.usual_out.ensures.job
+
+pub returns-in_ok-page-in-1668246627-clause-job : goal.returns-in_ok-page-in-1668246627-clause-job
+returns-in_ok-page-in-1668246627-clause-job c =
+    let left : List ℕ = c.args.left.now in
+    let page : List ℕ = c.in_ok-page-in-1668246627.page.now in
+    let word = sym c.first_four-front.ensures ∙ c.in-1668246627.is in
+    let begins = clock_front left page (λ j. (c.type_inv.left j).fits) c.if-left-lt4.false word
+    (sym (all_left 4 left c.if-left-lt4.false) ∙ c.in_ok-page-in-1668246627.ensures) in
+    by_row (page_row c.args.body.now ReadClock) c.args.body.now (codes "clock ") left page c.new-in-1668246627.result c.usual_clock.result
+    (clock_first c.args.body.now) begins c.new-in-1668246627.ensures c.usual_clock.ensures.job
