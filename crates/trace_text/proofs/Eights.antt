@@ -41,8 +41,9 @@ use Rattle.std.proofs.lemmas.Nat.Bits.{bit_at_and, bit_at_or, bit_at-zero, bit_a
 use Rattle.std.proofs.lemmas.Grind.{pow_more}
 use Rattle.std.proofs.lemmas.Str.{digit_value_digit}
 use lib.Lanes.{number_l}
-use Rattle.trace_text.proofs.Spells.{spelled-more, spelled-space, not_space}
+use Rattle.trace_text.proofs.Spells.{spelled-more, spelled-space, spelled-ended, not_space}
 use Rattle.trace_text.specs.private.Spelled.{spelled, AreDigits, words_from}
+use Rattle.trace_text.specs.declared.bytes.TheConstants.{TENS}
 
 power : (b k : ℕ) → b ^ suc k ≡ b ^ k * b
 power b k = let same : k + 1 ≡ suc k = omega arith in rw same at (pow_more b k)
@@ -400,3 +401,36 @@ fewer_first xs at end n start few inside h space =
     let value : 0 * 10 ^ (end - at) + n ≡ n = omega arith in
     let count : 0 + (end - at) ≡ end - at = omega arith in
     rw (value, count) at (h.1 0 0 (omega (arith, power_fits))) ∙ spelled-space 10 (end - at) n end xs inside space
+
+-- ---- a number of two words
+
+pub power_of : (k : ℕ) → k < 8 → get_or TENS k 0 ≡ 10 ^ k
+power_of zero l = refl
+power_of (suc zero) l = refl
+power_of (suc (suc zero)) l = refl
+power_of (suc (suc (suc zero))) l = refl
+power_of (suc (suc (suc (suc zero)))) l = refl
+power_of (suc (suc (suc (suc (suc zero))))) l = refl
+power_of (suc (suc (suc (suc (suc (suc zero)))))) l = refl
+power_of (suc (suc (suc (suc (suc (suc (suc zero))))))) l = refl
+power_of (suc (suc (suc (suc (suc (suc (suc (suc k)))))))) l = absurd (omega arith)
+
+-- with no more than eight digits after the first eight it fits 64 bits
+pub eight_more : (n k m : ℕ) → n < 100000000 → k ≤ 8 → m < 10 ^ k → ((n + 1) * 10 ^ k ≤ 10000000000000000) × (n * 10 ^ k + m < 10000000000000000)
+eight_more n k m first few more =
+    let least : 10 ^ k ≤ 100000000 = pow-le-pow_right {n = 10} (omega arith) {i = k} {j = 8} few in
+    let product : (n + 1) * 10 ^ k ≤ 100000000 * 100000000 = mul-le (n + 1) (10 ^ k) 100000000 100000000 (omega arith) least in
+    let spread : (n + 1) * 10 ^ k ≡ n * 10 ^ k + 10 ^ k = omega arith in
+    (omega arith, omega arith)
+
+pub two_words : (xs : List ℕ) (at end n m : ℕ) → at + 8 ≤ end → end ≤ at + 16 → AreDigits xs at (at + 8) n → AreDigits xs (at + 8) end m
+    → (end < length xs → get_or xs end 0 ≡ 32)
+    → spelled 10 0 0 (drop at xs) ≡ Some (record { count = end - at; value = n * 10 ^ (end - (at + 8)) + m; left = words_from (end + 1) xs })
+two_words xs at end n m start near first second space =
+    let k : ℕ = end - (at + 8) in
+    let eight : at + 8 - at ≡ 8 = omega arith in
+    let small : n < 10 ^ 8 = rw eight at first.0 in
+    let fits = eight_more n k m small (omega arith) second.0 in
+    let count : 8 + k ≡ end - at = omega arith in
+    rw (← count)
+    ((eight_first xs at n first).0 ∙ second.1 8 n (omega (arith, fits.0)) ∙ spelled-ended 10 (8 + k) (n * 10 ^ k + m) end xs space)

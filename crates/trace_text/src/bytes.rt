@@ -96,6 +96,11 @@ const ZEROS: u64 = 0x3030_3030_3030_3030;
 /// What takes each byte above the digit 9 to 128 or more, and leaves a digit below.
 const ABOVE_NINES: u64 = 0x4646_4646_4646_4646;
 
+/// The powers of ten by which a number grows with fewer than eight digits.
+static TENS: [u64; 8] = [
+    1, 10, 100, 1_000, 10_000, 100_000, 1_000_000, 10_000_000,
+];
+
 /// The highest bit of each byte of a word.
 const HIGH_BITS: u64 = 0x8080_8080_8080_8080;
 
@@ -325,7 +330,98 @@ fn eight_digits_at(line: &[u8], at: usize) -> Result<u64, Spelling>
     })
 }
 
-/// The same for a number of many digits: the first of them are read without a test of the line's end.
+/// The number at a place of a line of which the first eight digits spell `read`, if it has at most 16 digits, with an end
+/// of 0 for any other: the digits after the eight are read as one word too. It is apart from where it is called, which
+/// most counters don't need.
+#[inline(never)]
+fn long_number_apart(line: &[u8], at: usize, read: u64) -> Spelling
+    requires within { at + 16 ≤ length line.now }
+    requires read { AreDigits line.now at (at + 8) read }
+    ensures { 0 < result.end → (at < result.end) × (result.end ≤ length line.now)
+        × (spelled 10 0 0 (drop at line.now) ≡ Some (record {
+          count = result.end - at;
+          value = result.value;
+          left = words_from (result.end + 1) line.now;
+        })) }
+{
+    match eight_digits_at(line, at + 8) {
+        Ok(more) => {
+            if !ends_at(line, at + 16) {
+                return NO_SPELLING;
+            }
+            Spelling {
+                value: read * 100_000_000 + more,
+                end: at + 16,
+            }
+        }
+        Err(fewer) => {
+            if line[fewer.end] != b' ' {
+                return NO_SPELLING;
+            }
+            let power = TENS[fewer.end - (at + 8)];
+            Spelling {
+                value: read * power + fewer.value,
+                end: fewer.end,
+            }
+        }
+    }
+}
+
+/// The number at a place of a line of which the first eight digits spell `read`, if it has at most 12 digits, or 16
+/// in a line that goes on for so many bytes.
+#[inline(always)]
+fn after_eight(line: &[u8], at: usize, read: u64) -> Option<Spelling>
+    requires within { at + 12 ≤ length line.now }
+    requires read { AreDigits line.now at (at + 8) read }
+    ensures { IfSome result (λ s. (at < s.end) × (s.end ≤ length line.now)
+        × (spelled 10 0 0 (drop at line.now) ≡ Some (record {
+          count = s.end - at;
+          value = s.value;
+          left = words_from (s.end + 1) line.now;
+        }))) }
+{
+    if line[at + 8] == b' ' {
+        return Some(Spelling {
+            value: read,
+            end: at + 8,
+        });
+    }
+    if line.len() - at >= 16 && decimal_digit_of(line[at + 12]) < 10 {
+        let spelling = long_number_apart(line, at, read);
+        return if spelling.end == 0 {
+            None
+        } else {
+            Some(spelling)
+        };
+    }
+    let mut n = read;
+    for k in 8..MANY_DIGITS {
+        let byte = line[at + k];
+        let digit = decimal_digit_of(byte);
+        if digit >= 10 {
+            return if byte == b' ' {
+                Some(Spelling {
+                    value: n,
+                    end: at + k,
+                })
+            } else {
+                None
+            };
+        }
+        n = with_digit(n, 10, digit);
+    }
+    if ends_at(line, at + MANY_DIGITS) {
+        Some(Spelling {
+            value: n,
+            end: at + MANY_DIGITS,
+        })
+    } else {
+        None
+    }
+}
+
+/// The same for a number of many digits: the first of them are read without a test of the line's end. None also where the
+/// line ends soon after more than 12 of them.
 #[inline(always)]
 pub(crate) fn decimal_at(line: &[u8], at: usize) -> Option<Spelling>
     ensures { IfSome result (λ s. (at < s.end) × (s.end ≤ length line.now)
@@ -342,7 +438,7 @@ pub(crate) fn decimal_at(line: &[u8], at: usize) -> Option<Spelling>
     if first == 0 || first >= 10 {
         return None;
     }
-    let mut n = match eight_digits_at(line, at) {
+    let n = match eight_digits_at(line, at) {
         Ok(n) => n,
         Err(fewer) => {
             return if line[fewer.end] == b' ' {
@@ -352,22 +448,7 @@ pub(crate) fn decimal_at(line: &[u8], at: usize) -> Option<Spelling>
             };
         }
     };
-    for k in 8..MANY_DIGITS {
-        let byte = line[at + k];
-        let digit = decimal_digit_of(byte);
-        if digit >= 10 {
-            return if byte == b' ' {
-                Some(Spelling {
-                    value: n,
-                    end: at + k,
-                })
-            } else {
-                None
-            };
-        }
-        n = with_digit(n, 10, digit);
-    }
-    let spelling = short_spelling(line, at, at + MANY_DIGITS, 10, n)?;
+    let spelling = after_eight(line, at, n)?;
     Some(spelling)
 }
 

@@ -1,4 +1,4 @@
-use Rattle.std.proofs.Common.{◌≡◌, ℕ, ◌-◌, ◌%◌, List, length, take, drop, codes, sym, ap, ◌∙◌, arith}
+use Rattle.std.proofs.Common.{ℕ, ◌-◌, ◌%◌, List, length, take, drop, codes, sym, ap, ◌∙◌, arith}
 use Rattle.board_types.specs.declared.access.Access.TheVariants.{Ack}
 use Rattle.trace_text.specs.Records.{in_row, out_row, line_row, page_row}
 use Rattle.trace_text.specs.declared.records.Call.TheVariants.{ReadClock}

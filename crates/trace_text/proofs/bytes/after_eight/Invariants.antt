@@ -1,6 +1,6 @@
 use Rattle.std.proofs.Common.{◌≡◌, ◌+◌, ◌^◌, ◌<◌, drop}
 use Rattle.trace_text.specs.private.Spelled.{spelled}
-use Rattle.trace_text.proofs.bytes.decimal_at.Given as goal
+use Rattle.trace_text.proofs.bytes.after_eight.Given as goal
 
 abbrev pub invariant-loop-k : goal.invariant-loop-k
 invariant-loop-k l =
