@@ -386,7 +386,7 @@ fn after_eight(line: &[u8], at: usize, read: u64) -> Option<Spelling>
             end: at + 8,
         });
     }
-    if line.len() - at >= 16 && decimal_digit_of(line[at + 12]) < 10 {
+    if line.len() >= at + 16 && decimal_digit_of(line[at + 12]) < 10 {
         let spelling = long_number_apart(line, at, read);
         return if spelling.end == 0 {
             None
@@ -424,6 +424,7 @@ fn after_eight(line: &[u8], at: usize, read: u64) -> Option<Spelling>
 /// line ends soon after more than 12 of them.
 #[inline(always)]
 pub(crate) fn decimal_at(line: &[u8], at: usize) -> Option<Spelling>
+    requires { at ≤ length line.now + 1 }
     ensures { IfSome result (λ s. (at < s.end) × (s.end ≤ length line.now)
         × (slice_index line.now at ≢ 48) × (spelled 10 0 0 (drop at line.now) ≡ Some (record {
           count = s.end - at;
@@ -431,7 +432,7 @@ pub(crate) fn decimal_at(line: &[u8], at: usize) -> Option<Spelling>
           left = words_from (s.end + 1) line.now;
         }))) }
 {
-    if line.len() < MANY_DIGITS || line.len() - MANY_DIGITS < at {
+    if line.len() < at + MANY_DIGITS {
         return few_digits_at(line, at);
     }
     let first = decimal_digit_of(line[at]);
