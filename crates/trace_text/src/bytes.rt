@@ -87,7 +87,7 @@ pub(crate) struct Spelling {
 /// No number.
 const NO_SPELLING: Spelling = Spelling { value: 0, end: 0 };
 
-/// How many digits are read without a test of the line's end.
+/// How many digits of a long number are read without a test of the line's end.
 const MANY_DIGITS: usize = 12;
 
 /// The digit 0 in each byte of a word.
@@ -97,9 +97,7 @@ const ZEROS: u64 = 0x3030_3030_3030_3030;
 const ABOVE_NINES: u64 = 0x4646_4646_4646_4646;
 
 /// The powers of ten by which a number grows with fewer than eight digits.
-static TENS: [u64; 8] = [
-    1, 10, 100, 1_000, 10_000, 100_000, 1_000_000, 10_000_000,
-];
+static TENS: [u64; 8] = [1, 10, 100, 1_000, 10_000, 100_000, 1_000_000, 10_000_000];
 
 /// The highest bit of each byte of a word.
 const HIGH_BITS: u64 = 0x8080_8080_8080_8080;
@@ -367,8 +365,8 @@ fn long_number_apart(line: &[u8], at: usize, read: u64) -> Spelling
     }
 }
 
-/// The number at a place of a line of which the first eight digits spell `read`, if it has at most 12 digits, or 16
-/// in a line that goes on for so many bytes.
+/// The number at a place of a line of which the first eight digits spell `read`, if it has at most 12 digits, or at most
+/// 16 in a line that goes on for 16 bytes.
 #[inline(always)]
 fn after_eight(line: &[u8], at: usize, read: u64) -> Option<Spelling>
     requires within { at + 12 ≤ length line.now }
@@ -420,8 +418,8 @@ fn after_eight(line: &[u8], at: usize, read: u64) -> Option<Spelling>
     }
 }
 
-/// The same for a number of many digits: the first of them are read without a test of the line's end. None also where the
-/// line ends soon after more than 12 of them.
+/// A number as `few_digits_at` reads it, most likely of many digits: the first of them are read without a test of the
+/// line's end. None also for more than 12 of them in a line that ends before 16 bytes.
 #[inline(always)]
 pub(crate) fn decimal_at(line: &[u8], at: usize) -> Option<Spelling>
     requires { at ≤ length line.now + 1 }

@@ -11,16 +11,23 @@ use crate::words::Words;
 use board_types::{Access, is_hpet_place, is_line};
 use std::simd::prelude::*;
 
-/// How the records begin that are read here, each as one word with the first byte lowest: `in `, `step`, `ack `, `out `
-/// and the front of `clock `.
+/// The bytes `in ` as one word, the first of them in its lowest byte.
 const IN: u32 = 0x20_6e69;
+
+/// The same of `step`.
 const STEP: u32 = 0x7065_7473;
+
+/// The same of `ack `.
 const ACK: u32 = 0x206b_6361;
+
+/// The same of `out `.
 const OUT: u32 = 0x2074_756f;
+
+/// The same of the front of `clock `.
 const CLOC: u32 = 0x636f_6c63;
 
-/// What most records do, by the bytes after the counter; None also for what others do. It is small, so that the answer to
-/// a line is inlined in the loop over the lines.
+/// What most records do, by the bytes after the counter; None also for what others do. The first four of them tell which
+/// record it is, since each has as many. It is small, so that the answer to a line is inlined in the loop over the lines.
 #[inline(always)]
 pub(crate) fn usual_job(body: &Body, left: &[u8]) -> Option<Job>
     ensures job { IfSome result (λ j. job_of body.now (words_of left.now) ≡ Ok j) }

@@ -16,10 +16,10 @@ returns-then-line-fewer-eq32 c =
     let later : at < end = elim (cases_lt at end) [
       | inl less ↦ less
       | inr ge ↦ absurd (
-        let same : end ≡ at = omega (arith, read.0) in
-        let space : first ≡ 32 = rw same at c.if-line-fewer-eq32.true in
-        let value_of : digit_value first ≡ 36 = ap digit_value space in
-        omega arith)
+          let same : end ≡ at = omega (arith, read.0) in
+          let space : first ≡ 32 = rw same at c.if-line-fewer-eq32.true in
+          let value_of : digit_value first ≡ 36 = ap digit_value space in
+          omega arith)
     ] in (
       later,
       omega arith,
