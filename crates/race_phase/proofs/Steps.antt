@@ -30,23 +30,9 @@ use Rattle.race_phase.specs.declared.working.Working.{Working}
 use Rattle.race_phase.specs.Calls.{records_of, AllMade}
 use Rattle.race_phase.specs.private.Workers.{AllButLast, AllTried, HasHalted, HasPrinted, HasStopped, HasWorked}
 use Rattle.race_phase.specs.private.Working.{IsWorking}
-use Rattle.race_phase.proofs.Workers.{records_of-append, records_skip, records_take, waits_printed, waits_stopped}
+use Rattle.race_phase.proofs.Workers.{records_of-append, records_skip, records_take, stopped_more, waits_printed, waits_stopped}
 
 module _ (s : BoardParts) (ds : Deliveries) (n : ℕ) where
-  -- a pass that has stopped has stopped among more records, too
-  stopped_more : (rs more : List Record) (p : PassKnown) → HasStopped s ds n rs p → HasStopped s ds n (rs ++ more) p
-  stopped_more rs more p t = record {
-    done = t.done;
-    next = t.next;
-    rest = t.rest ++ more;
-    text = t.text;
-    whole = ap (λ ys. ys ++ more) t.whole ∙ append_assoc t.done (t.next ∷ t.rest) more;
-    made = t.made;
-    met = t.met;
-    fits = t.fits;
-    legal = t.legal;
-  }
-
   module _ {N : Type 0} (rs : List Record) (r : Record) where
     -- a record of another processor
     pub step_skip : (w : Working N) → r.cpu ≢ n → IsWorking s ds n rs w → IsWorking s ds n (rs ++ r ∷ []) w
@@ -63,7 +49,7 @@ module _ (s : BoardParts) (ds : Deliveries) (n : ℕ) where
       number = x.number;
       going = λ e. absurd (cc (sym halted ∙ e));
       stopped = λ e. subst (λ (ys : List Record). HasStopped s ds n ys w.pass) (sym (records_of-append n rs (r ∷ [])))
-          (stopped_more (records_of n rs) (records_of n (r ∷ [])) w.pass (x.stopped e));
+          (stopped_more s ds n (records_of n rs) (records_of n (r ∷ [])) w.pass (x.stopped e));
     }
 
     -- a record that waits

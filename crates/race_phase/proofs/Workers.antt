@@ -311,19 +311,23 @@ module _ (s : BoardParts) (ds : Deliveries) (n : ℕ) where
       → HasPrinted s ds ws xs ys p q → AllButLast s ds n rs [] ys q
   waits_printed rs ws xs ys p q is all a = subst (λ (zs : List ℕ). AllButLast s ds n rs [] zs q) (sym a.1) (waits_answered rs ws xs a.0 p q is all a.2)
 
+  -- a pass that has stopped has stopped among more records, too
+  pub stopped_more : (rs more : List Record) (p : PassKnown) → HasStopped s ds n rs p → HasStopped s ds n (rs ++ more) p
+  stopped_more rs more p t = record {
+    done = t.done;
+    next = t.next;
+    rest = t.rest ++ more;
+    text = t.text;
+    whole = ap (λ ys. ys ++ more) t.whole ∙ append_assoc t.done (t.next ∷ t.rest) more;
+    made = t.made;
+    met = t.met;
+    fits = t.fits;
+    legal = t.legal;
+  }
+
   -- one of those that wait is not answered
   pub waits_stopped : (rs ws more : List Record) (xs : List ℕ) (p q : PassKnown) → p.number ≡ n → AllButLast s ds n rs ws xs p → HasHalted s ws p q
       → HasStopped s ds n (rs ++ more) q
   waits_stopped rs ws more xs p q is all h =
       let from = subst (λ (k : ℕ). AllMade s ds k all.done xs (mine p)) (sym is) all.made in
-      let t = subst (λ (z : ℕ × List Record). HasStopped s ds z.0 z.1 q) (λ i. (is i, sym all.whole i)) (h.met ds all.done xs from) in record {
-        done = t.done;
-        next = t.next;
-        rest = t.rest ++ more;
-        text = t.text;
-        whole = ap (λ ys. ys ++ more) t.whole ∙ append_assoc t.done (t.next ∷ t.rest) more;
-        made = t.made;
-        met = t.met;
-        fits = t.fits;
-        legal = t.legal;
-      }
+      stopped_more rs more q (subst (λ (z : ℕ × List Record). HasStopped s ds z.0 z.1 q) (λ i. (is i, sym all.whole i)) (h.met ds all.done xs from))
