@@ -16,6 +16,7 @@ use Rattle.std.proofs.Common.{
   ◌∷◌,
   ◌++◌,
   length,
+  get_or,
   refl,
   sym,
   ap,
@@ -73,6 +74,7 @@ use Rattle.race_phase.proofs.Counts.{
 use Rattle.race_phase.proofs.Settle.{rpart, rpart_whole, Exact, exact, exact_all}
 use Rattle.race_phase.proofs.Taken.{IsSound, filed}
 use Rattle.race_phase.specs.Tallies.{TallyParts, IsTally}
+use Rattle.race_phase.specs.private.Tallied.{tally_of}
 use Rattle.std.proofs.Math.ListN.{get_or-map}
 
 -- the entries weigh what the records weigh
@@ -167,21 +169,10 @@ places_records b (r ∷ rs) = places_records (after_record b r) rs ∙ places_ca
     places_call cpu h (Act a) = length-processors b cpu h a
     places_call cpu h _ = refl
 
--- the tally of a board
-abbrev tally_of : BoardParts → TallyParts
-tally_of b = record {
-  format = b.format;
-  cpus = b.cpus;
-  anchor = b.anchor;
-  host = b.host;
-  accesses = b.accesses;
-  wall_version = b.wall_version;
-  hv_version = b.hv.version;
-  versions = map (λ (p : ProcessorParts). p.version) b.processors;
-}
-
-tally_is : (b : BoardParts) → b.cpus ≤ length b.processors → IsTally b (tally_of b)
-tally_is b places = record {
+-- counts of a board
+pub tally_is : (b : BoardParts) (versions : List ℕ) → ((k : ℕ) → get_or versions k 0 ≡ (processor_at b k).version)
+    → b.cpus ≤ length b.processors → b.cpus ≤ length versions → IsTally b (tally_of b versions)
+tally_is b versions same places own = record {
   format = refl;
   cpus = refl;
   anchor = refl;
@@ -189,9 +180,9 @@ tally_is b places = record {
   accesses = refl;
   wall_version = refl;
   hv_version = refl;
-  versions = λ k. get_or-map (λ (p : ProcessorParts). p.version) b.processors k no_processor;
+  versions = same;
   places = places;
-  own = (let l = length-map b.processors (λ (p : ProcessorParts). p.version) in omega arith);
+  own = own;
 }
 
 -- the workers leave the counts that file order leaves
@@ -260,8 +251,11 @@ module _ (s : BoardParts) (ds : Deliveries) (rs : List Record) (mid : BoardParts
       let host : b.host ≡ mid.host = (let l = host_le in let g = host_ge in omega arith) in
       let own : mid.cpus ≤ length mid.processors =
       (let p = places_mid in let m = ap (λ (x : Machine). x.cpus) machine_mid in let q = sound.places in omega arith) in
-      let t : TallyParts = tally_of mid in
-      let is : IsTally mid t = tally_is mid own in (
+      let version : ProcessorParts → ℕ = λ p. p.version in
+      let versions : List ℕ = map version mid.processors in
+      let t : TallyParts = tally_of mid versions in
+      let is : IsTally mid t =
+      tally_is mid versions (λ k. get_or-map version mid.processors k no_processor) own (let l = length-map mid.processors version in omega arith) in (
         t,
         record {
           format = ap (λ (x : Machine). x.format) (sym machine);

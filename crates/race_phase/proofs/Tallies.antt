@@ -65,7 +65,7 @@ use Rattle.race_phase.specs.private.Tallied.{
   raised_below,
   moved_in,
 }
-use Rattle.race_phase.proofs.Alike.{host_after}
+use Rattle.race_phase.proofs.Alike.{host_after, tally_is}
 use Rattle.race_phase.proofs.Moves.{
   published_places,
   published_here,
@@ -282,18 +282,9 @@ board_with t = let other : BoardParts = board_in [] in record other {
 }
 
 has_board : (t : TallyParts) → t.cpus ≤ length t.versions → IsTally (board_with t) t
-has_board t own = record {
-  format = refl;
-  cpus = refl;
-  anchor = refl;
-  host = refl;
-  accesses = refl;
-  wall_version = refl;
-  hv_version = refl;
-  versions = λ k. sym (ap (λ (p : ProcessorParts). p.version) (get_or-map page_at t.versions k 0));
-  places = (let l = length-map t.versions page_at in omega arith);
-  own = own;
-}
+has_board t own =
+    tally_is (board_with t) t.versions (λ k. sym (ap (λ (p : ProcessorParts). p.version) (get_or-map page_at t.versions k 0)))
+    (let l = length-map t.versions page_at in omega arith) own
 
 pub admitted-free : {A : Type 0} (r : Result A Refusal) (t : TallyParts) (cpu h : ℕ) (a : Access) → t.cpus ≤ length t.versions
     → OnOk r (refusal_in t cpu h a ≡ None) → OnOk r ((b : BoardParts) × IsTally b t × (refusal_of b cpu h a ≡ None))

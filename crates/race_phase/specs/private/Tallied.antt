@@ -6,6 +6,7 @@ use Rattle.clk_units.specs.declared.ranges.TheConstants.{RANGE_NS}
 use Rattle.host_counter.specs.declared.Anchor.{Anchor}
 use Rattle.host_counter.specs.Time.{time_at}
 use Rattle.board_types.specs.declared.access.Access.{Access}
+use Rattle.board_types.specs.declared.parts.BoardParts.{BoardParts}
 use Rattle.board_types.specs.declared.setup.TheConstants.{HV_FORMAT}
 use Rattle.board_types.specs.declared.reply.Refusal.{Refusal}
 use Rattle.board_types.specs.declared.reply.Refusal.TheVariants.{NoTime}
@@ -24,6 +25,19 @@ pub record IsCounting (anchor : Anchor) (host cpus : ℕ) : Type 0 where
   pub rate : IsKhz anchor.khz
   pub time : HasTime anchor host
   pub few : cpus ≤ 64
+
+-- the counts of a board whose pages have these versions
+abbrev pub tally_of : BoardParts → List ℕ → TallyParts
+tally_of b versions = record {
+  format = b.format;
+  cpus = b.cpus;
+  anchor = b.anchor;
+  host = b.host;
+  accesses = b.accesses;
+  wall_version = b.wall_version;
+  hv_version = b.hv.version;
+  versions = versions;
+}
 
 -- the version that an access would raise
 abbrev pub version_in : Option ℕ → List ℕ → Option ℕ
