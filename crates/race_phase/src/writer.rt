@@ -235,6 +235,8 @@ impl<'a, F: Feeding> Writer<'a, F> {
     }
 
     /// Closes the feed: what waits for more stops.
+    // After a whole trace nobody takes the last piece. It is put all the same: it asks for no memory, and however the reading
+    // ended no worker waits for ever.
     pub fn close(&mut self) {
         let _ = self.feed.open(None);
         let closing = Piece::new(0, 0, Vec::new(self.alloc));
