@@ -11,8 +11,18 @@ const START_SPINS: u64 = 400;
 
 const TURN_SPINS: u64 = 100;
 
-/// How often a worker lets other threads run as it looks for those that aren't there yet, or for its turn. Where a thread can't
-/// be started, its worker comes after another has ended.
+/// How often a worker lets other threads run between two looks for those that aren't there yet, and how often it then sleeps
+/// between two, for how many microseconds at most. Where a thread can't be started, its worker comes after another has ended.
+const START_YIELDS: u64 = 50;
+
+const START_NAPS: u64 = 20;
+
+const START_NAP_US: u64 = 500;
+
+/// How often a worker looks at the start line before it gives it up.
+const START_LOOKS: u64 = START_SPINS + START_YIELDS + START_NAPS;
+
+/// How often a worker lets other threads run as it looks for its turn.
 const MOST_YIELDS: u64 = 2_000;
 
 /// How often a worker looks for its turn where the one whose turn it is takes none: it has more records left, is at its last
@@ -22,9 +32,12 @@ const FEW_LOOKS: u64 = 100;
 /// How often a worker looks for the start, once all have come.
 const OPENING_LOOKS: u64 = 20_000;
 
-/// How often the last worker to come lets the others look before a short phase starts, for how many pauses of the processor
-/// each time, and for how many microseconds it sleeps where they can't look beside it.
+/// In how many rounds the last worker to come sees the others look before a short phase starts, in how many at most it lets
+/// them look, for how many pauses of the processor each time, and for how many microseconds it sleeps where they can't look
+/// beside it.
 const ROUNDS: u64 = 3;
+
+const MOST_ROUNDS: u64 = 32;
 
 const ROUND_PAUSES: u64 = 200;
 
@@ -49,6 +62,11 @@ fn pause(looks: u64, spins: u64) {
     yield_now();
 }
 
+/// Whether the workers may begin: all have come, or one has given up the start line.
+const ALL_CAME: u64 = 1;
+
+const GIVEN_UP: u64 = 2;
+
 /// The bit of a worker.
 fn bit(worker: u64) -> u64 {
     1 << (worker % 64)
@@ -62,12 +80,16 @@ fn bit(worker: u64) -> u64 {
 // Looks alone are no chance where the host runs the threads on one processor, as an idle one may: they change there at the
 // same looks in each run. How often others look while one sleeps by the host's timer differs even so. On processors of their
 // own it differs without a sleep, which takes longer than a thread does to start.
+//
+// On a loaded host a thread that lets others run is away for milliseconds, and one that sleeps is run soon after it is woken.
+// So who waits at the start line sleeps, and is woken by the last one to come: both look at once then. A processor whose
+// thread sleeps also takes over a thread that waits for another processor, as a new one may.
 /// A start line, where a worker waits until all have come, so that none is at its end before another begins; and turns.
 #[derive(Drop)]
 pub(crate) struct Schedule {
     workers: u64,
     there: AtomicU64,
-    /// Not 0 once the workers may begin.
+    /// Not 0 once the workers may begin. Those at the start line sleep on it.
     started: AtomicU64,
     /// The worker that begins the next record.
     turn: AtomicU64,
@@ -104,26 +126,41 @@ impl Schedule {
         seed.wrapping_add(self.looks.load(Ordering::SeqCst))
     }
 
-    /// A worker comes to the start line, and waits a bounded number of looks for the others. The last one to come lets all
-    /// begin: after a few rounds of looks where the phase is short.
+    /// A worker comes to the start line, and waits a bounded number of looks for the others. The last one to come wakes them,
+    /// and lets all begin: where the phase is short, after a few rounds of looks.
     pub(crate) fn start<R: Wait>(&self, rt: &R, is_short: bool) {
         let others = self.there.fetch_add(1, Ordering::SeqCst);
         if others.saturating_add(1) < self.workers {
-            self.wait_for_others();
+            self.wait_for_others(rt);
             return;
         }
-        if is_short && others > 0 {
-            for _ in 0..ROUNDS {
-                self.let_others_look(rt);
-                let chance = self.chance().wrapping_mul(SPREAD);
-                self.seed.store(chance, Ordering::SeqCst);
+        if others > 0 {
+            self.started.wake_all();
+            if is_short {
+                self.meet_others(rt);
             }
         }
-        self.started.store(1, Ordering::SeqCst);
+        self.started.fetch_or(ALL_CAME, Ordering::SeqCst);
     }
 
-    /// Lets the others look for a short while. Where none of them runs beside this worker, it sleeps.
-    fn let_others_look<R: Wait>(&self, rt: &R) {
+    /// Lets the others look until they were seen in enough rounds, or one has given up the start line.
+    fn meet_others<R: Wait>(&self, rt: &R) {
+        let mut seen = 0u64;
+        for _ in 0..MOST_ROUNDS {
+            if seen >= ROUNDS || self.started.load(Ordering::SeqCst) != 0 {
+                return;
+            }
+            if self.let_others_look(rt) {
+                seen = seen.saturating_add(1);
+            }
+            // A round in which none looked counts too: how many there are differs from run to run.
+            let chance = self.chance().wrapping_add(1).wrapping_mul(SPREAD);
+            self.seed.store(chance, Ordering::SeqCst);
+        }
+    }
+
+    /// Lets the others look for a short while. Where none of them runs beside this worker, it sleeps. Whether one has looked.
+    fn let_others_look<R: Wait>(&self, rt: &R) -> bool {
         let before = self.looks.load(Ordering::SeqCst);
         for _ in 0..ROUND_PAUSES {
             spin_loop();
@@ -132,28 +169,39 @@ impl Schedule {
             let nap = Duration::from_micros(NAP_US);
             self.started.park_timeout(rt, 0, nap);
         }
+        self.looks.load(Ordering::SeqCst) != before
     }
 
     /// Waits a bounded number of looks for the others to come.
-    fn wait_for_others(&self) {
-        for looks in 0..START_SPINS + MOST_YIELDS {
+    fn wait_for_others<R: Wait>(&self, rt: &R) {
+        for looks in 0..START_LOOKS {
             if self.there.load(Ordering::SeqCst) >= self.workers {
                 self.wait_for_start();
                 return;
             }
             self.looks.fetch_add(1, Ordering::SeqCst);
-            pause(looks, START_SPINS);
+            if looks < START_SPINS + START_YIELDS {
+                pause(looks, START_SPINS);
+            } else {
+                let nap = Duration::from_micros(START_NAP_US);
+                self.started.park_timeout(rt, 0, nap);
+            }
         }
+        self.started.fetch_or(GIVEN_UP, Ordering::SeqCst);
     }
 
     /// Waits a bounded number of looks for the start, when all have come.
     fn wait_for_start(&self) {
-        for _ in 0..OPENING_LOOKS {
+        for looks in 0..OPENING_LOOKS {
             if self.started.load(Ordering::SeqCst) != 0 {
                 return;
             }
             self.looks.fetch_add(1, Ordering::SeqCst);
-            yield_now();
+            if looks < START_SPINS {
+                spin_loop();
+            } else {
+                yield_now();
+            }
         }
     }
 
@@ -207,8 +255,8 @@ mod tests {
             shared.there.load(Ordering::SeqCst)
         };
         let (one, two) = join(&rt, come, come);
-        // Who begins alone has looked as often as it may: a host may start a thread late.
-        let gave_up = shared.looks.load(Ordering::SeqCst) >= START_SPINS + MOST_YIELDS;
+        // A host may start a thread late.
+        let gave_up = shared.started.load(Ordering::SeqCst) & GIVEN_UP != 0;
         assert!(rt; one == 2 && two == 2 || gave_up);
     }
 
