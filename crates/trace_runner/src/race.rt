@@ -182,6 +182,7 @@ fn write<'a, F: Feeding, K: Sink>(
         (Rose (K.output sink.old).faults (K.output sink.new).faults) }
     ensures puts { PutsOnly result (K.output sink.old) (K.output sink.new) }
 {
+    // It is named for the proof, which reads from it that no record of the trace is refused in file order.
     let _ = &trace.written;
     match text_of(ran, alloc, trace) {
         Ok(text) => say_each(sink, text.pieces(), Status::Ok, Status::SinkFault),
