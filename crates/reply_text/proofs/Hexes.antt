@@ -34,6 +34,7 @@ use Rattle.std.proofs.Common.{
   eq-zero-or-pos,
   eqb→eq,
   append_assoc,
+  length-append,
 }
 use Rattle.std.specs.Char.{digit_char}
 use Rattle.std.proofs.Math.Seq.{take-append_seam}
@@ -136,3 +137,10 @@ take-hexes xs ys =
 pub hex_text-none : (k n : ℕ) (rest : List ℕ) → k ≡ 0 → rest ≡ hex_text k n ++ rest
 unfolding hex_text
 hex_text-none k n rest e = subst (λ (m : ℕ). rest ≡ hex_text m n ++ rest) (sym e) refl
+
+-- as many digits as were asked for
+pub length-hex_text : (k n : ℕ) → length (hex_text k n) ≡ k
+unfolding hex_text
+length-hex_text zero n = refl
+length-hex_text (suc k) n =
+    length-append (hex_text k (n / 16)) (digit_char (n % 16) ∷ []) ∙ omega (arith, length-hex_text k (n / 16))

@@ -1,3 +1,4 @@
 pub mod Hexes
 pub mod Ups
 mod Rows
+pub mod Fronts

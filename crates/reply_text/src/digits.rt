@@ -37,6 +37,7 @@ fn write_pair(byte: u8, buf: &mut [u8], end: usize) -> usize
     ensures start { result + 2 ≡ end }
     ensures written { drop result buf.new
         ≡ digit_char (byte / 16) ∷ digit_char (byte % 16) ∷ drop end buf.old }
+    ensures before { take result buf.new ≡ take result buf.old }
 {
     let pair = 2 * byte as usize;
     let start = end - 2;
@@ -53,6 +54,7 @@ pub(crate) fn write_hex(n: u64, count: usize, buf: &mut [u8], end: usize) -> usi
     requires within { end ≤ length buf.old }
     ensures start { result + 2 * count ≡ end }
     ensures written { drop result buf.new ≡ hex_text (2 * count) n ++ drop end buf.old }
+    ensures before { take result buf.new ≡ take result buf.old }
 {
     let mut left = n;
     let mut at = end;

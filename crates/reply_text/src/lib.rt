@@ -14,6 +14,7 @@
 #![tactic(auto)]
 
 mod clock;
+mod counted;
 mod digits;
 mod ends;
 mod replies;
@@ -22,6 +23,7 @@ mod soak;
 mod tail;
 
 pub use clock::{clock_line, hv_line, page_line};
+pub use counted::CountedLines;
 pub use ends::{Reason, Refused, final_line, refused_line};
 pub use replies::{board_line, edge_line, msg_line, value_line};
 pub use saved::{move_line, save_line, state_line};

@@ -1,15 +1,18 @@
-//! A board with the reply into which its accesses are answered.
+//! A board with the reply into which its accesses are answered, and what is kept of the lines of these.
 ghost use Rattle.std.specs.Prelude.{◌≡◌};
 
 use board_core::{BoardState, LazyBoard, Reply};
+use reply_text::CountedLines;
 use std::marker::Model;
 
 /// A board, and a reply for its accesses, which is kept from one to the next: a new one has all its places cleared. Between two
-/// accesses it holds no edge and no message; its number and its value mean nothing then.
+/// accesses it holds no edge and no message; its number and its value mean nothing then. The digits of the last line are kept
+/// too, since the next has mostly the same but one or two.
 #[derive(Drop)]
 pub(crate) struct KeptBoard {
     pub(crate) state: LazyBoard,
     pub(crate) reply: Reply,
+    pub(crate) lines: CountedLines,
 }
 
 impl Model for KeptBoard {
@@ -32,6 +35,7 @@ impl KeptBoard {
         KeptBoard {
             state: LazyBoard::new(state),
             reply: Reply::empty(),
+            lines: CountedLines::new(),
         }
     }
 }

@@ -20,7 +20,7 @@ use crate::status::{Verdict, refuse, refuse_access, refused_time};
 use board_core::{Access, Reply};
 use clk_units::NoMemory;
 use race_phase::{Deliveries, NewHost, access_block};
-use reply_text::{board_line, clock_line, hv_line, page_line};
+use reply_text::{clock_line, hv_line, page_line};
 use trace_text::{Call, Job, Record};
 
 impl Replay {
@@ -95,7 +95,7 @@ impl Replay {
         match board.state.answer(given.cpu, given.h, access, reply) {
             Ok(()) => {
                 if reply.edges.is_empty() && reply.bursts.is_empty() {
-                    return board_line(line, reply, out);
+                    return board.lines.board_line(line, reply, out);
                 }
                 print_block(line, reply, &self.deliveries, out)
             }

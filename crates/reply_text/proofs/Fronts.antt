@@ -1,0 +1,259 @@
+-- Lemmas on the front of a reply's line, whose numbers count up.
+use Rattle.std.proofs.Common.{◌≡◌, ◌≢◌, ℕ, ◌+◌, ◌-◌, ◌/◌, ◌%◌, ◌^◌, ◌<◌, ◌≤◌, List, [], ◌∷◌, ◌++◌, length, take, drop, get_or, set, decimal, refl, sym, ap, ◌∙◌, inl, inr, arith, eq-zero-or-pos, append_assoc, length-append, length-take, length-take-le}
+use Rattle.std.proofs.Math.Seq.{take-set-lt, take-append-add}
+use Rattle.std.proofs.lemmas.Fmt.{decimal_digit, decimal_step, length-decimal-le}
+use Rattle.std.proofs.lemmas.List.{take_at, drop_at, set_at, get_or_at, get_or-take, take-set-le, take-take, take-append-drop, take-append-le, drop-take, append-nil}
+use Rattle.board_types.specs.declared.reply.Value.{Value}
+use Rattle.reply_text.specs.Words.{spaced}
+use Rattle.reply_text.specs.Text.{value_text, value_words}
+use Rattle.reply_text.specs.private.Front.{IsFront}
+
+-- the last digit of a number, and of one more
+pub last_digit : (n : ℕ) → n < 2 ^ 64
+    → (f : List ℕ) × (decimal n ≡ f ++ (48 + n % 10) ∷ [])
+    × (n % 10 < 9 → n + 1 < 2 ^ 64 → decimal (n + 1) ≡ f ++ (49 + n % 10) ∷ [])
+last_digit n fits = elim (eq-zero-or-pos (n - 9)) [
+  | inl z ↦
+      let one : n % 10 ≡ n = omega arith in (
+        [],
+        rw one (decimal_digit n (omega arith)),
+        λ low fits'.
+        let up : 49 + n % 10 ≡ 48 + (n + 1) = omega arith in
+        rw up (decimal_digit (n + 1) (omega arith)),
+      )
+  | inr g ↦ (
+      decimal (n / 10),
+      decimal_step n (omega arith) fits,
+      λ low fits'.
+      let high : (n + 1) / 10 ≡ n / 10 = omega arith in
+      let up : 48 + (n + 1) % 10 ≡ 49 + n % 10 = omega arith in
+      rw (decimal_step (n + 1) (omega arith) fits', high, up),
+    )
+]
+
+-- a byte among others, and another in its place
+byte_at : (pre f post text : List ℕ) (x k end : ℕ) → take end text ≡ pre ++ ((f ++ x ∷ []) ++ post)
+    → length pre + length f ≡ k → k < end
+    → (get_or text k 0 ≡ x) × ((y : ℕ) → take end (set text k y) ≡ pre ++ ((f ++ y ∷ []) ++ post))
+byte_at pre f post text x k end is at within =
+    let parts : (z : ℕ) → pre ++ ((f ++ z ∷ []) ++ post) ≡ (pre ++ f) ++ z ∷ post = λ (z : ℕ).
+    ap (λ (t : List ℕ). pre ++ t) (append_assoc f (z ∷ []) post) ∙ sym (append_assoc pre f (z ∷ post)) in
+    let long : length (pre ++ f) ≡ k = length-append pre f ∙ at in (
+      sym (get_or-take end text k 0 within) ∙ ap (λ (t : List ℕ). get_or t k 0) (is ∙ parts x)
+      ∙ get_or_at (pre ++ f) x post 0 k long,
+      λ y. take-set-lt end text k y within ∙ ap (λ (t : List ℕ). set t k y) (is ∙ parts x)
+      ∙ set_at (pre ++ f) x post y k long ∙ sym (parts y),
+    )
+
+-- how long a number is by its last digit
+length_by_last : (n x : ℕ) (f : List ℕ) → decimal n ≡ f ++ x ∷ [] → length (decimal n) ≡ length f + 1
+length_by_last n x f e = ap length e ∙ length-append f (x ∷ [])
+
+-- the line counts up where its last digit isn't 9
+pub line_counted : (line number start end : ℕ) (text : List ℕ) → IsFront line number start end text → length text ≡ 128
+    → line < 2 ^ 64
+    → (get_or text 19 0 < 58)
+    × (get_or text 19 0 ≢ 57 → line + 1 < 2 ^ 64 → IsFront (line + 1) number start end (set text 19 (get_or text 19 0 + 1)))
+line_counted line number start end text front room fits =
+    let last = last_digit line fits in
+    let f : List ℕ = last.0 in
+    let digits : decimal line ≡ f ++ (48 + line % 10) ∷ [] = last.1 in
+    let long : length (decimal line) ≡ length f + 1 = length_by_last line (48 + line % 10) f digits in
+    let start_is = front.start_is in
+    let end_is = front.end_is in
+    let before : length (take start text) ≡ start = length-take-le start text (omega arith) in
+    let byte = byte_at (take start text) f (32 ∷ decimal number) text (48 + line % 10) 19 end
+    (front.written ∙ ap (λ (ds : List ℕ). take start text ++ (ds ++ 32 ∷ decimal number)) digits) (omega arith) (omega arith) in
+    let is : get_or text 19 0 ≡ 48 + line % 10 = byte.0 in (
+      omega arith,
+      λ low fits'.
+      let next : decimal (line + 1) ≡ f ++ (49 + line % 10) ∷ [] = last.2 (omega arith) fits' in
+      let long' : length (decimal (line + 1)) ≡ length f + 1 = length_by_last (line + 1) (49 + line % 10) f next in
+      let up : get_or text 19 0 + 1 ≡ 49 + line % 10 = omega arith in
+      let text' : List ℕ = set text 19 (get_or text 19 0 + 1) in
+      record {
+        start_is = omega arith;
+        end_is = end_is;
+        short = front.short;
+        written = byte.1 (get_or text 19 0 + 1)
+        ∙ ap (λ (x : ℕ). take start text ++ ((f ++ x ∷ []) ++ 32 ∷ decimal number)) up
+        ∙ ap (λ (ds : List ℕ). take start text ++ (ds ++ 32 ∷ decimal number)) (sym next)
+        ∙ ap (λ (p : List ℕ). p ++ (decimal (line + 1) ++ 32 ∷ decimal number))
+        (sym (take-set-le start text 19 (get_or text 19 0 + 1) (omega arith)));
+      },
+    )
+
+-- the number after what is before it
+apart : (pre line number : List ℕ) → pre ++ (line ++ 32 ∷ number) ≡ (pre ++ (line ++ 32 ∷ [])) ++ number
+apart pre line number = sym (append_assoc pre (line ++ 32 ∷ []) number ∙ ap (λ (t : List ℕ). pre ++ t) (append_assoc line (32 ∷ []) number))
+
+-- and how long that is
+length_before : (line number start end : ℕ) (text : List ℕ) → IsFront line number start end text → length text ≡ 128
+    → length (take start text ++ (decimal line ++ 32 ∷ [])) ≡ 21
+length_before line number start end text front room =
+    let start_is = front.start_is in
+    let before : length (take start text) ≡ start = length-take-le start text (omega arith) in
+    omega (arith, length-append (take start text) (decimal line ++ 32 ∷ []), length-append (decimal line) (32 ∷ []))
+
+-- the number counts up where its last digit isn't 9
+pub number_counted : (line number start end : ℕ) (text : List ℕ) → IsFront line number start end text → length text ≡ 128
+    → number < 2 ^ 64
+    → (get_or text (end - 1) 0 < 58)
+    × (get_or text (end - 1) 0 ≢ 57 → number + 1 < 2 ^ 64
+    → IsFront line (number + 1) start end (set text (end - 1) (get_or text (end - 1) 0 + 1)))
+number_counted line number start end text front room fits =
+    let last = last_digit number fits in
+    let f : List ℕ = last.0 in
+    let digits : decimal number ≡ f ++ (48 + number % 10) ∷ [] = last.1 in
+    let long : length (decimal number) ≡ length f + 1 = length_by_last number (48 + number % 10) f digits in
+    let start_is = front.start_is in
+    let end_is = front.end_is in
+    let pre : List ℕ = take start text ++ (decimal line ++ 32 ∷ []) in
+    let before : length pre ≡ 21 = length_before line number start end text front room in
+    let at : ℕ = end - 1 in
+    let whole : (ds : List ℕ) → take start text ++ (decimal line ++ 32 ∷ ds) ≡ pre ++ (ds ++ []) = λ (ds : List ℕ).
+    apart (take start text) (decimal line) ds ∙ ap (λ (t : List ℕ). pre ++ t) (sym (append-nil ds)) in
+    let byte = byte_at pre f [] text (48 + number % 10) at end
+    (front.written ∙ ap (λ (ds : List ℕ). take start text ++ (decimal line ++ 32 ∷ ds)) digits
+    ∙ whole (f ++ (48 + number % 10) ∷ [])) (omega arith) (omega arith) in
+    let is : get_or text at 0 ≡ 48 + number % 10 = byte.0 in (
+      omega arith,
+      λ low fits'.
+      let next : decimal (number + 1) ≡ f ++ (49 + number % 10) ∷ [] = last.2 (omega arith) fits' in
+      let long' : length (decimal (number + 1)) ≡ length f + 1 = length_by_last (number + 1) (49 + number % 10) f next in
+      let up : get_or text at 0 + 1 ≡ 49 + number % 10 = omega arith in
+      record {
+        start_is = start_is;
+        end_is = omega arith;
+        short = front.short;
+        written = byte.1 (get_or text at 0 + 1)
+        ∙ ap (λ (x : ℕ). pre ++ ((f ++ x ∷ []) ++ [])) up
+        ∙ ap (λ (ds : List ℕ). pre ++ (ds ++ [])) (sym next)
+        ∙ sym (whole (decimal (number + 1)))
+        ∙ ap (λ (p : List ℕ). p ++ (decimal line ++ 32 ∷ decimal (number + 1)))
+        (sym (take-set-le start text at (get_or text at 0 + 1) (omega arith)));
+      },
+    )
+
+-- another line in front of the number
+pub line_written : (line line' number start end r : ℕ) (text new : List ℕ) → IsFront line number start end text
+    → length text ≡ 128 → length new ≡ 128 → r + length (decimal line') ≡ 20
+    → drop r new ≡ decimal line' ++ drop 20 text → IsFront line' number r end new
+line_written line line' number start end r text new front room room' place after =
+    let start_is = front.start_is in
+    let end_is = front.end_is in
+    let front_long : length (take start text) ≡ start = length-take-le start text (omega arith) in
+    let line_end : length (take start text ++ decimal line) ≡ 20 = omega (arith, length-append (take start text) (decimal line)) in
+    let more : ℕ = end - 20 in
+    let sum : 20 + more ≡ end = omega arith in
+    let sum' : length (decimal line') + more ≡ end - r = omega arith in
+    let all : r + (end - r) ≡ end = omega arith in
+    let rest : take more (drop 20 text) ≡ 32 ∷ decimal number =
+    sym (drop-take 20 more text) ∙ ap (λ (n : ℕ). drop 20 (take n text)) sum ∙ ap (drop 20) front.written
+    ∙ ap (drop 20) (sym (append_assoc (take start text) (decimal line) (32 ∷ decimal number)))
+    ∙ drop_at (take start text ++ decimal line) (32 ∷ decimal number) 20 line_end in
+    record {
+      start_is = place;
+      end_is = end_is;
+      short = front.short;
+      written = sym (take-append-drop r (take end new))
+      ∙ ap (λ (t : List ℕ). t ++ drop r (take end new)) (take-take r end new (omega arith))
+      ∙ ap (λ (t : List ℕ). take r new ++ t)
+      (ap (λ (n : ℕ). drop r (take n new)) (sym all) ∙ drop-take r (end - r) new ∙ ap (take (end - r)) after
+      ∙ ap (λ (n : ℕ). take n (decimal line' ++ drop 20 text)) (sym sum')
+      ∙ take-append-add (decimal line') (drop 20 text) more ∙ ap (λ (t : List ℕ). decimal line' ++ t) rest);
+    }
+
+-- another number after the line
+pub number_written : (line number number' start end end' : ℕ) (text new : List ℕ) → IsFront line number start end text
+    → length text ≡ 128 → end' ≡ 21 + length (decimal number') → end' ≤ 41
+    → take end' new ≡ take 21 text ++ decimal number' → IsFront line number' start end' new
+number_written line number number' start end end' text new front room place few after =
+    let start_is = front.start_is in
+    let end_is = front.end_is in
+    let pre : List ℕ = take start text ++ (decimal line ++ 32 ∷ []) in
+    let before : length pre ≡ 21 = length_before line number start end text front room in
+    let kept : take 21 text ≡ pre =
+    sym (take-take 21 end text (omega arith)) ∙ ap (take 21) (front.written ∙ apart (take start text) (decimal line) (decimal number))
+    ∙ take_at pre (decimal number) 21 before in
+    let same : take start new ≡ take start text =
+    sym (take-take start end' new (omega arith)) ∙ ap (take start) after
+    ∙ take-append-le start (take 21 text) (decimal number') (omega (arith, length-take-le 21 text (omega arith)))
+    ∙ take-take start 21 text (omega arith) in
+    record {
+      start_is = start_is;
+      end_is = place;
+      short = few;
+      written = after ∙ ap (λ (t : List ℕ). t ++ decimal number') kept
+      ∙ sym (apart (take start text) (decimal line) (decimal number'))
+      ∙ ap (λ (p : List ℕ). p ++ (decimal line ++ 32 ∷ decimal number')) (sym same);
+    }
+
+-- what follows a front makes a line of it
+pub line_after : (line number start end at : ℕ) (text new words : List ℕ) → IsFront line number start end text
+    → length text ≡ 128 → take at new ≡ take end text ++ words → end ≤ at
+    → take (at - start) (drop start new) ≡ decimal line ++ (32 ∷ (decimal number ++ words))
+line_after line number start end at text new words front room after more =
+    let start_is = front.start_is in
+    let end_is = front.end_is in
+    let front_long : length (take start text) ≡ start = length-take-le start text (omega arith) in
+    let all : start + (at - start) ≡ at = omega arith in
+    sym (drop-take start (at - start) new) ∙ ap (λ (n : ℕ). drop start (take n new)) all
+    ∙ ap (drop start) (after ∙ ap (λ (t : List ℕ). t ++ words) front.written
+    ∙ append_assoc (take start text) (decimal line ++ 32 ∷ decimal number) words)
+    ∙ drop_at (take start text) ((decimal line ++ 32 ∷ decimal number) ++ words) start front_long
+    ∙ append_assoc (decimal line) (32 ∷ decimal number) words
+
+-- what follows is its value
+pub line_printed : (line number start end at : ℕ) (text new : List ℕ) (value : Value) → IsFront line number start end text
+    → length text ≡ 128 → take at new ≡ take end text ++ spaced (value_words value) → end ≤ at
+    → take (at - start) (drop start new) ≡ value_text line number value
+unfolding value_text
+line_printed line number start end at text new value front room after more =
+    line_after line number start end at text new (spaced (value_words value)) front room after more
+
+-- and the front stays
+pub before_words : (end at : ℕ) (text new words : List ℕ) → take at new ≡ take end text ++ words → end ≤ at → end ≤ length text
+    → take end new ≡ take end text
+before_words end at text new words after more within =
+    sym (take-take end at new more) ∙ ap (take end) after
+    ∙ take_at (take end text) words end (length-take-le end text within)
+
+-- what is written after what stays
+pub written_after : (new old w : List ℕ) (r m : ℕ) → length w ≡ m → take r new ≡ take r old → drop r new ≡ w ++ drop (r + m) old
+    → take (r + m) new ≡ take r old ++ w
+written_after new old w r m long same after =
+    sym (take-append-drop r (take (r + m) new))
+    ∙ ap (λ (t : List ℕ). t ++ drop r (take (r + m) new)) (take-take r (r + m) new (omega arith) ∙ same)
+    ∙ ap (λ (t : List ℕ). take r old ++ t) (drop-take r m new ∙ ap (take m) after ∙ take_at w (drop (r + m) old) m long)
+
+-- the digits of a number that were copied behind the space
+pub number_copied : (text digits number zeros rest : List ℕ) (s : ℕ) → length text ≡ 128 → s + length number ≡ 20
+    → drop s digits ≡ number ++ zeros → take (41 - s) (take 21 text ++ (take 20 (drop s digits) ++ rest)) ≡ take 21 text ++ number
+number_copied text digits number zeros rest s room place is =
+    let long : length (take 21 text) ≡ 21 = length-take-le 21 text (omega arith) in
+    let sum : length (take 21 text) + length number ≡ 41 - s = omega arith in
+    let copied : length number ≤ length (take 20 (drop s digits)) =
+    omega (arith, length-take 20 (drop s digits), ap length is, length-append number zeros) in
+    ap (λ (n : ℕ). take n (take 21 text ++ (take 20 (drop s digits) ++ rest))) (sym sum)
+    ∙ take-append-add (take 21 text) (take 20 (drop s digits) ++ rest) (length number)
+    ∙ ap (λ (t : List ℕ). take 21 text ++ t)
+    (take-append-le (length number) (take 20 (drop s digits)) rest (omega arith)
+    ∙ take-take (length number) 20 (drop s digits) (omega arith) ∙ ap (take (length number)) is
+    ∙ take_at number zeros (length number) refl)
+
+-- a front stays where what is after it changes
+pub front_stays : (line number start end : ℕ) (text new : List ℕ) → IsFront line number start end text
+    → take end new ≡ take end text → IsFront line number start end new
+front_stays line number start end text new front same =
+    let start_is = front.start_is in
+    let end_is = front.end_is in
+    let le : start ≤ end = omega arith in
+    record {
+      start_is = start_is;
+      end_is = end_is;
+      short = front.short;
+      written = same ∙ front.written
+      ∙ ap (λ (p : List ℕ). p ++ (decimal line ++ 32 ∷ decimal number))
+      (sym (take-take start end text le) ∙ ap (take start) (sym same) ∙ take-take start end new le);
+    }
