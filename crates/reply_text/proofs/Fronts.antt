@@ -1,8 +1,8 @@
 -- Lemmas on the front of a reply's line, whose numbers count up.
-use Rattle.std.proofs.Common.{◌≡◌, ◌≢◌, ℕ, ◌+◌, ◌-◌, ◌/◌, ◌%◌, ◌^◌, ◌<◌, ◌≤◌, List, [], ◌∷◌, ◌++◌, length, take, drop, get_or, set, decimal, refl, sym, ap, ◌∙◌, inl, inr, arith, eq-zero-or-pos, append_assoc, length-append, length-take, length-take-le}
+use Rattle.std.proofs.Common.{◌≡◌, ◌≢◌, ℕ, ◌+◌, ◌-◌, ◌/◌, ◌%◌, ◌^◌, ◌<◌, ◌≤◌, List, [], ◌∷◌, ◌++◌, length, take, drop, get_or, set, decimal, refl, sym, ap, ◌∙◌, inl, inr, arith, eq-zero-or-pos, append_assoc, length-append, length-drop, length-take, length-take-le}
 use Rattle.std.proofs.Math.Seq.{take-set-lt, take-append-add}
-use Rattle.std.proofs.lemmas.Fmt.{decimal_digit, decimal_step, length-decimal-le}
-use Rattle.std.proofs.lemmas.List.{take_at, drop_at, set_at, get_or_at, get_or-take, take-set-le, take-take, take-append-drop, take-append-le, drop-take, append-nil}
+use Rattle.std.proofs.lemmas.Fmt.{decimal_digit, decimal_step}
+use Rattle.std.proofs.lemmas.List.{take_at, drop_at, set_at, get_or_at, get_or-take, take-set-le, take-take, take-append-drop, take-append-le, drop-append-le, drop-take, append-nil}
 use Rattle.board_types.specs.declared.reply.Value.{Value}
 use Rattle.reply_text.specs.Words.{spaced}
 use Rattle.reply_text.specs.Text.{value_text, value_words}
@@ -18,17 +18,17 @@ last_digit n fits = elim (eq-zero-or-pos (n - 9)) [
         [],
         rw one (decimal_digit n (omega arith)),
         λ low fits'.
-        let up : 49 + n % 10 ≡ 48 + (n + 1) = omega arith in
-        rw up (decimal_digit (n + 1) (omega arith)),
+            let up : 49 + n % 10 ≡ 48 + (n + 1) = omega arith in
+            rw up (decimal_digit (n + 1) (omega arith)),
       )
   | inr g ↦ (
-      decimal (n / 10),
-      decimal_step n (omega arith) fits,
-      λ low fits'.
-      let high : (n + 1) / 10 ≡ n / 10 = omega arith in
-      let up : 48 + (n + 1) % 10 ≡ 49 + n % 10 = omega arith in
-      rw (decimal_step (n + 1) (omega arith) fits', high, up),
-    )
+    decimal (n / 10),
+    decimal_step n (omega arith) fits,
+    λ low fits'.
+        let high : (n + 1) / 10 ≡ n / 10 = omega arith in
+        let up : 48 + (n + 1) % 10 ≡ 49 + n % 10 = omega arith in
+        rw (decimal_step (n + 1) (omega arith) fits', high, up),
+  )
 ]
 
 -- a byte among others, and another in its place
@@ -40,9 +40,9 @@ byte_at pre f post text x k end is at within =
     ap (λ (t : List ℕ). pre ++ t) (append_assoc f (z ∷ []) post) ∙ sym (append_assoc pre f (z ∷ post)) in
     let long : length (pre ++ f) ≡ k = length-append pre f ∙ at in (
       sym (get_or-take end text k 0 within) ∙ ap (λ (t : List ℕ). get_or t k 0) (is ∙ parts x)
-      ∙ get_or_at (pre ++ f) x post 0 k long,
+          ∙ get_or_at (pre ++ f) x post 0 k long,
       λ y. take-set-lt end text k y within ∙ ap (λ (t : List ℕ). set t k y) (is ∙ parts x)
-      ∙ set_at (pre ++ f) x post y k long ∙ sym (parts y),
+          ∙ set_at (pre ++ f) x post y k long ∙ sym (parts y),
     )
 
 -- how long a number is by its last digit
@@ -50,7 +50,7 @@ length_by_last : (n x : ℕ) (f : List ℕ) → decimal n ≡ f ++ x ∷ [] → 
 length_by_last n x f e = ap length e ∙ length-append f (x ∷ [])
 
 -- the line counts up where its last digit isn't 9
-pub line_counted : (line number start end : ℕ) (text : List ℕ) → IsFront line number start end text → length text ≡ 128
+pub line_counted : (line number start end : ℕ) (text : List ℕ) → IsFront line number start end text → length text ≡ 96
     → line < 2 ^ 64
     → (get_or text 19 0 < 58)
     × (get_or text 19 0 ≢ 57 → line + 1 < 2 ^ 64 → IsFront (line + 1) number start end (set text 19 (get_or text 19 0 + 1)))
@@ -67,20 +67,20 @@ line_counted line number start end text front room fits =
     let is : get_or text 19 0 ≡ 48 + line % 10 = byte.0 in (
       omega arith,
       λ low fits'.
-      let next : decimal (line + 1) ≡ f ++ (49 + line % 10) ∷ [] = last.2 (omega arith) fits' in
-      let long' : length (decimal (line + 1)) ≡ length f + 1 = length_by_last (line + 1) (49 + line % 10) f next in
-      let up : get_or text 19 0 + 1 ≡ 49 + line % 10 = omega arith in
-      let text' : List ℕ = set text 19 (get_or text 19 0 + 1) in
-      record {
-        start_is = omega arith;
-        end_is = end_is;
-        short = front.short;
-        written = byte.1 (get_or text 19 0 + 1)
-        ∙ ap (λ (x : ℕ). take start text ++ ((f ++ x ∷ []) ++ 32 ∷ decimal number)) up
-        ∙ ap (λ (ds : List ℕ). take start text ++ (ds ++ 32 ∷ decimal number)) (sym next)
-        ∙ ap (λ (p : List ℕ). p ++ (decimal (line + 1) ++ 32 ∷ decimal number))
-        (sym (take-set-le start text 19 (get_or text 19 0 + 1) (omega arith)));
-      },
+          let next : decimal (line + 1) ≡ f ++ (49 + line % 10) ∷ [] = last.2 (omega arith) fits' in
+          let long' : length (decimal (line + 1)) ≡ length f + 1 = length_by_last (line + 1) (49 + line % 10) f next in
+          let up : get_or text 19 0 + 1 ≡ 49 + line % 10 = omega arith in
+          let text' : List ℕ = set text 19 (get_or text 19 0 + 1) in
+          record {
+            start_is = omega arith;
+            end_is = end_is;
+            short = front.short;
+            written = byte.1 (get_or text 19 0 + 1)
+                ∙ ap (λ (x : ℕ). take start text ++ ((f ++ x ∷ []) ++ 32 ∷ decimal number)) up
+                ∙ ap (λ (ds : List ℕ). take start text ++ (ds ++ 32 ∷ decimal number)) (sym next)
+                ∙ ap (λ (p : List ℕ). p ++ (decimal (line + 1) ++ 32 ∷ decimal number))
+                (sym (take-set-le start text 19 (get_or text 19 0 + 1) (omega arith)));
+          },
     )
 
 -- the number after what is before it
@@ -88,7 +88,7 @@ apart : (pre line number : List ℕ) → pre ++ (line ++ 32 ∷ number) ≡ (pre
 apart pre line number = sym (append_assoc pre (line ++ 32 ∷ []) number ∙ ap (λ (t : List ℕ). pre ++ t) (append_assoc line (32 ∷ []) number))
 
 -- and how long that is
-length_before : (line number start end : ℕ) (text : List ℕ) → IsFront line number start end text → length text ≡ 128
+length_before : (line number start end : ℕ) (text : List ℕ) → IsFront line number start end text → length text ≡ 96
     → length (take start text ++ (decimal line ++ 32 ∷ [])) ≡ 21
 length_before line number start end text front room =
     let start_is = front.start_is in
@@ -96,7 +96,7 @@ length_before line number start end text front room =
     omega (arith, length-append (take start text) (decimal line ++ 32 ∷ []), length-append (decimal line) (32 ∷ []))
 
 -- the number counts up where its last digit isn't 9
-pub number_counted : (line number start end : ℕ) (text : List ℕ) → IsFront line number start end text → length text ≡ 128
+pub number_counted : (line number start end : ℕ) (text : List ℕ) → IsFront line number start end text → length text ≡ 96
     → number < 2 ^ 64
     → (get_or text (end - 1) 0 < 58)
     × (get_or text (end - 1) 0 ≢ 57 → number + 1 < 2 ^ 64
@@ -119,25 +119,25 @@ number_counted line number start end text front room fits =
     let is : get_or text at 0 ≡ 48 + number % 10 = byte.0 in (
       omega arith,
       λ low fits'.
-      let next : decimal (number + 1) ≡ f ++ (49 + number % 10) ∷ [] = last.2 (omega arith) fits' in
-      let long' : length (decimal (number + 1)) ≡ length f + 1 = length_by_last (number + 1) (49 + number % 10) f next in
-      let up : get_or text at 0 + 1 ≡ 49 + number % 10 = omega arith in
-      record {
-        start_is = start_is;
-        end_is = omega arith;
-        short = front.short;
-        written = byte.1 (get_or text at 0 + 1)
-        ∙ ap (λ (x : ℕ). pre ++ ((f ++ x ∷ []) ++ [])) up
-        ∙ ap (λ (ds : List ℕ). pre ++ (ds ++ [])) (sym next)
-        ∙ sym (whole (decimal (number + 1)))
-        ∙ ap (λ (p : List ℕ). p ++ (decimal line ++ 32 ∷ decimal (number + 1)))
-        (sym (take-set-le start text at (get_or text at 0 + 1) (omega arith)));
-      },
+          let next : decimal (number + 1) ≡ f ++ (49 + number % 10) ∷ [] = last.2 (omega arith) fits' in
+          let long' : length (decimal (number + 1)) ≡ length f + 1 = length_by_last (number + 1) (49 + number % 10) f next in
+          let up : get_or text at 0 + 1 ≡ 49 + number % 10 = omega arith in
+          record {
+            start_is = start_is;
+            end_is = omega arith;
+            short = front.short;
+            written = byte.1 (get_or text at 0 + 1)
+                ∙ ap (λ (x : ℕ). pre ++ ((f ++ x ∷ []) ++ [])) up
+                ∙ ap (λ (ds : List ℕ). pre ++ (ds ++ [])) (sym next)
+                ∙ sym (whole (decimal (number + 1)))
+                ∙ ap (λ (p : List ℕ). p ++ (decimal line ++ 32 ∷ decimal (number + 1)))
+                (sym (take-set-le start text at (get_or text at 0 + 1) (omega arith)));
+          },
     )
 
 -- another line in front of the number
 pub line_written : (line line' number start end r : ℕ) (text new : List ℕ) → IsFront line number start end text
-    → length text ≡ 128 → length new ≡ 128 → r + length (decimal line') ≡ 20
+    → length text ≡ 96 → length new ≡ 96 → r + length (decimal line') ≡ 20
     → drop r new ≡ decimal line' ++ drop 20 text → IsFront line' number r end new
 line_written line line' number start end r text new front room room' place after =
     let start_is = front.start_is in
@@ -157,16 +157,16 @@ line_written line line' number start end r text new front room room' place after
       end_is = end_is;
       short = front.short;
       written = sym (take-append-drop r (take end new))
-      ∙ ap (λ (t : List ℕ). t ++ drop r (take end new)) (take-take r end new (omega arith))
-      ∙ ap (λ (t : List ℕ). take r new ++ t)
-      (ap (λ (n : ℕ). drop r (take n new)) (sym all) ∙ drop-take r (end - r) new ∙ ap (take (end - r)) after
-      ∙ ap (λ (n : ℕ). take n (decimal line' ++ drop 20 text)) (sym sum')
-      ∙ take-append-add (decimal line') (drop 20 text) more ∙ ap (λ (t : List ℕ). decimal line' ++ t) rest);
+          ∙ ap (λ (t : List ℕ). t ++ drop r (take end new)) (take-take r end new (omega arith))
+          ∙ ap (λ (t : List ℕ). take r new ++ t)
+          (ap (λ (n : ℕ). drop r (take n new)) (sym all) ∙ drop-take r (end - r) new ∙ ap (take (end - r)) after
+          ∙ ap (λ (n : ℕ). take n (decimal line' ++ drop 20 text)) (sym sum')
+          ∙ take-append-add (decimal line') (drop 20 text) more ∙ ap (λ (t : List ℕ). decimal line' ++ t) rest);
     }
 
 -- another number after the line
 pub number_written : (line number number' start end end' : ℕ) (text new : List ℕ) → IsFront line number start end text
-    → length text ≡ 128 → end' ≡ 21 + length (decimal number') → end' ≤ 41
+    → length text ≡ 96 → end' ≡ 21 + length (decimal number') → end' ≤ 41
     → take end' new ≡ take 21 text ++ decimal number' → IsFront line number' start end' new
 number_written line number number' start end end' text new front room place few after =
     let start_is = front.start_is in
@@ -185,13 +185,13 @@ number_written line number number' start end end' text new front room place few 
       end_is = place;
       short = few;
       written = after ∙ ap (λ (t : List ℕ). t ++ decimal number') kept
-      ∙ sym (apart (take start text) (decimal line) (decimal number'))
-      ∙ ap (λ (p : List ℕ). p ++ (decimal line ++ 32 ∷ decimal number')) (sym same);
+          ∙ sym (apart (take start text) (decimal line) (decimal number'))
+          ∙ ap (λ (p : List ℕ). p ++ (decimal line ++ 32 ∷ decimal number')) (sym same);
     }
 
 -- what follows a front makes a line of it
 pub line_after : (line number start end at : ℕ) (text new words : List ℕ) → IsFront line number start end text
-    → length text ≡ 128 → take at new ≡ take end text ++ words → end ≤ at
+    → length text ≡ 96 → take at new ≡ take end text ++ words → end ≤ at
     → take (at - start) (drop start new) ≡ decimal line ++ (32 ∷ (decimal number ++ words))
 line_after line number start end at text new words front room after more =
     let start_is = front.start_is in
@@ -206,7 +206,7 @@ line_after line number start end at text new words front room after more =
 
 -- what follows is its value
 pub line_printed : (line number start end at : ℕ) (text new : List ℕ) (value : Value) → IsFront line number start end text
-    → length text ≡ 128 → take at new ≡ take end text ++ spaced (value_words value) → end ≤ at
+    → length text ≡ 96 → take at new ≡ take end text ++ spaced (value_words value) → end ≤ at
     → take (at - start) (drop start new) ≡ value_text line number value
 unfolding value_text
 line_printed line number start end at text new value front room after more =
@@ -228,7 +228,7 @@ written_after new old w r m long same after =
     ∙ ap (λ (t : List ℕ). take r old ++ t) (drop-take r m new ∙ ap (take m) after ∙ take_at w (drop (r + m) old) m long)
 
 -- the digits of a number that were copied behind the space
-pub number_copied : (text digits number zeros rest : List ℕ) (s : ℕ) → length text ≡ 128 → s + length number ≡ 20
+pub number_copied : (text digits number zeros rest : List ℕ) (s : ℕ) → length text ≡ 96 → s + length number ≡ 20
     → drop s digits ≡ number ++ zeros → take (41 - s) (take 21 text ++ (take 20 (drop s digits) ++ rest)) ≡ take 21 text ++ number
 number_copied text digits number zeros rest s room place is =
     let long : length (take 21 text) ≡ 21 = length-take-le 21 text (omega arith) in
@@ -242,6 +242,24 @@ number_copied text digits number zeros rest s room place is =
     ∙ take-take (length number) 20 (drop s digits) (omega arith) ∙ ap (take (length number)) is
     ∙ take_at number zeros (length number) refl)
 
+-- words before a place and words after it make a line
+pub joined_at : (text new w words : List ℕ) (start place end : ℕ) → drop start (take place text) ≡ w
+    → take end new ≡ take place text ++ words → start ≤ place → place ≤ end → place ≤ length text
+    → take (end - start) (drop start new) ≡ w ++ words
+joined_at text new w words start place end is after before more room =
+    let all : start + (end - start) ≡ end = omega arith in
+    let long : length (take place text) ≡ place = length-take-le place text room in
+    let within : start ≤ length (take place text) = omega arith in
+    sym (drop-take start (end - start) new) ∙ ap (λ (n : ℕ). drop start (take n new)) all
+    ∙ ap (drop start) after ∙ drop-append-le start (take place text) words within ∙ ap (λ (t : List ℕ). t ++ words) is
+
+-- what is before a place by what was written in front of it
+pub up_to : (new w rest : List ℕ) (start place : ℕ) → drop start new ≡ w ++ rest → start + length w ≡ place
+    → drop start (take place new) ≡ w
+up_to new w rest start place is at =
+    ap (λ (n : ℕ). drop start (take n new)) (sym at) ∙ drop-take start (length w) new ∙ ap (take (length w)) is
+    ∙ take_at w rest (length w) refl
+
 -- a front stays where what is after it changes
 pub front_stays : (line number start end : ℕ) (text new : List ℕ) → IsFront line number start end text
     → take end new ≡ take end text → IsFront line number start end new
@@ -254,6 +272,29 @@ front_stays line number start end text new front same =
       end_is = end_is;
       short = front.short;
       written = same ∙ front.written
-      ∙ ap (λ (p : List ℕ). p ++ (decimal line ++ 32 ∷ decimal number))
-      (sym (take-take start end text le) ∙ ap (take start) (sym same) ∙ take-take start end new le);
+          ∙ ap (λ (p : List ℕ). p ++ (decimal line ++ 32 ∷ decimal number))
+          (sym (take-take start end text le) ∙ ap (take start) (sym same) ∙ take-take start end new le);
     }
+
+-- two and three digits
+pub two_digits : (n : ℕ) → 10 ≤ n → n < 100 → decimal n ≡ (48 + n / 10) ∷ (48 + n % 10) ∷ []
+two_digits n least most =
+    decimal_step n least (omega arith) ∙ ap (λ (t : List ℕ). t ++ (48 + n % 10) ∷ []) (decimal_digit (n / 10) (omega arith))
+
+pub three_digits : (n : ℕ) → 100 ≤ n → n < 1000
+    → decimal n ≡ (48 + n / 100) ∷ (48 + n / 10 % 10) ∷ (48 + n % 10) ∷ []
+three_digits n least most =
+    let high : n / 10 / 10 ≡ n / 100 = omega arith in
+    decimal_step n (omega arith) (omega arith)
+    ∙ ap (λ (t : List ℕ). t ++ (48 + n % 10) ∷ [])
+    (two_digits (n / 10) (omega arith) (omega arith)
+    ∙ ap (λ (x : ℕ). (48 + x) ∷ (48 + n / 10 % 10) ∷ []) high)
+
+-- a word after a word
+pub chain : (p w v x y : List ℕ) → x ≡ p ++ w → y ≡ x ++ v → y ≡ p ++ (w ++ v)
+chain p w v x y e f = f ∙ ap (λ (t : List ℕ). t ++ v) e ∙ append_assoc p w v
+
+-- how many bytes of a buffer stand between two places
+pub length_between : (text : List ℕ) (start end : ℕ) → end ≤ length text → length (take (end - start) (drop start text)) ≡ end - start
+length_between text start end within =
+    length-take-le (end - start) (drop start text) (omega (arith, length-drop start text))

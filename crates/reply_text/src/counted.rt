@@ -2,12 +2,10 @@
 ghost use Rattle.std.specs.Prelude.{
   ◌≡◌,
   ◌+◌,
-  ◌-◌,
   ◌*◌,
   ◌<◌,
   ◌≤◌,
   ◌++◌,
-  ◌∷◌,
   length,
   take,
   drop,
@@ -19,10 +17,10 @@ ghost use Rattle.std.specs.Prelude.{
   vec_capacity,
 };
 ghost use Rattle.std.specs.Bool.{OnTrue};
-ghost use Rattle.reply_text.specs.Words.{spaced, hex_text};
+ghost use Rattle.reply_text.specs.Words.{spaced};
 ghost use Rattle.reply_text.specs.Text.{value_text, value_words};
 
-use crate::digits::write_hex;
+use crate::forward::{ROOM, append_line, put_byte, put_hex};
 use crate::replies::value_line;
 use board_types::{Reply, Value};
 use clk_units::NoMemory;
@@ -32,16 +30,13 @@ use std::marker::Model;
 /// The most digits of a number; those of a record's line end at this place.
 const DIGITS: usize = 20;
 
-/// The bytes of a line, and as many after it as are copied at once.
-const ROOM: usize = 128;
-
 /// The beginning of the last reply's line, which is kept for the next: the line of the record and the number of the
 /// access. Mostly each of them is one more, and one byte differs.
 #[derive(Drop)]
 pub struct CountedLines {
     line: u64,
     number: u64,
-    /// The digits of the line, a space, and the digits of the number stand from `start` to `end`.
+    /// The digits of the line, which end at place 20, a space, and the digits of the number stand from `start` to `end`.
     text: [u8; ROOM],
     start: usize,
     end: usize,
@@ -169,58 +164,5 @@ fn put_value(value: &Value, text: &mut [u8; ROOM], end: usize) -> Option<usize>
         Value::Word { width: 4, value } => put_hex(value, 4, text, end),
         _ => return None,
     };
-    text[at] = b'\n';
-    Some(at + 1)
-}
-
-/// Puts a space and the hexadecimal digits of the last `count` bytes of a number at a place, and returns where they end.
-#[inline(always)]
-fn put_hex(n: u64, count: usize, text: &mut [u8; ROOM], at: usize) -> usize
-    requires { at + 2 * count < ROOM }
-    ensures end { result ≡ at + 1 + 2 * count }
-    ensures written { take result text.new ≡ take at text.old ++ 32 ∷ hex_text (2 * count) n }
-{
-    let end = at + 1 + 2 * count;
-    text[at] = b' ';
-    write_hex(n, count, text, end);
-    end
-}
-
-/// Appends the bytes from `start` to `end`. Where there is room, more are copied, so that the compiler knows how many.
-#[inline(always)]
-fn append_line(
-    text: &[u8; ROOM],
-    start: usize,
-    end: usize,
-    out: &mut Vec<u8>,
-) -> Result<(), NoMemory>
-    requires order { start ≤ end }
-    requires within { (start ≤ 20) × (end ≤ ROOM) }
-    ensures ok { OnOk result (out.new.items ≡ out.old.items ++ take (end - start) (drop start text.now)) }
-    ensures err { OnErr result (out.new.items ≡ out.old.items) }
-    ensures full { OnErr result (vec_capacity out.old < vec_len out.old + (end - start)) }
-{
-    let len = end - start;
-    let room = out.capacity() - out.len();
-    if len <= 32 && 32 <= room {
-        return append_front(&text[start..start + 32], len, out);
-    }
-    if len <= 64 && 64 <= room {
-        return append_front(&text[start..start + 64], len, out);
-    }
-    out.extend_from_slice(&text[start..end]).map_err(|_| NoMemory)
-}
-
-/// Appends the first bytes of some for which there is room.
-#[inline(always)]
-fn append_front(bytes: &[u8], len: usize, out: &mut Vec<u8>) -> Result<(), NoMemory>
-    requires { len ≤ length bytes.now }
-    ensures ok { OnOk result (out.new.items ≡ out.old.items ++ take len bytes.now) }
-    ensures err { OnErr result (out.new.items ≡ out.old.items) }
-    ensures full { OnErr result (vec_capacity out.old < vec_len out.old + length bytes.now) }
-{
-    let end = out.len() + len;
-    out.extend_from_slice(bytes).map_err(|_| NoMemory)?;
-    out.truncate(end);
-    Ok(())
+    Some(put_byte(b'\n', text, at))
 }

@@ -17,6 +17,7 @@ mod clock;
 mod counted;
 mod digits;
 mod ends;
+mod forward;
 mod replies;
 mod saved;
 mod soak;

@@ -81,3 +81,63 @@ fn lines_of_pages_saves_and_ends(rt: HostRuntime) -> Result<(), Fail> {
     assert_eq!(rt; out.as_slice(), wanted.as_slice());
     Ok(())
 }
+
+/// The lines of replies whose numbers count up, stay, grow by a digit or fall are those that are written whole.
+#[test]
+fn counted_lines_are_whole_lines(rt: HostRuntime) -> Result<(), Fail> {
+    let mut out = Vec::new(rt.alloc());
+    let mut wanted = Vec::new(rt.alloc());
+    let mut lines = CountedLines::new();
+    let starts = [
+        (0u64, 0u64),
+        (7, 97),
+        (98, 99_999),
+        (9_999, 8),
+        (18_446_744_073_709_551_607, 18_446_744_073_709_551_598),
+        (3, 1),
+    ];
+    let mut reply = Reply::empty();
+    for (line, number) in starts {
+        for k in 0..6u64 {
+            reply.number = number + k * (k % 3);
+            reply.value = match k {
+                0 => Value::Nothing,
+                1 => Value::Byte(4),
+                2 => Value::Next(None),
+                3 => Value::Word {
+                    width: 8,
+                    value: 0x0098_9680_8086_a201,
+                },
+                4 => Value::Word { width: 4, value: 5 },
+                _ => Value::Next(Some(number)),
+            };
+            lines.board_line(line + k, &reply, &mut out)?;
+            board_line(line + k, &reply, &mut wanted)?;
+        }
+    }
+    assert_eq!(rt; out.as_slice(), wanted.as_slice());
+    Ok(())
+}
+
+/// Processors, lines and vectors of one, two and three digits.
+#[test]
+fn edges_of_each_length(rt: HostRuntime) -> Result<(), Fail> {
+    let mut out = Vec::new(rt.alloc());
+    for (cpu, line, at) in [(9, 0, 0), (10, 23, 99_999), (255, 100, u64::MAX)] {
+        let to = Delivery { cpu, vector: 0xfe };
+        edge_line(&Edge { at, line, up: true }, Some(to), &mut out)?;
+        edge_line(
+            &Edge {
+                at,
+                line,
+                up: false,
+            },
+            None,
+            &mut out,
+        )?;
+    }
+    let wanted = b"edge 0 0 up 9 fe\nedge 0 0 down\nedge 99999 23 up 10 fe\nedge 99999 23 down\n\
+edge 18446744073709551615 100 up 255 fe\nedge 18446744073709551615 100 down\n";
+    assert_eq!(rt; out.as_slice(), wanted.as_slice());
+    Ok(())
+}

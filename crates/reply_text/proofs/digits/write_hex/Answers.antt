@@ -14,7 +14,7 @@ loop-preserved c =
       omega (arith, c.write_pair-at.ensures.start),
       rw (c.write_pair-at.ensures.written) step,
       c.write_pair-at.ensures.before ∙ sym (take-take at c.loop.at c.loop.buf below) ∙ ap (take at) c.loop.invariant.2
-      ∙ take-take at c.loop.at c.args.buf.now below,
+          ∙ take-take at c.loop.at c.args.buf.now below,
     )
 
 pub returns-clause-written : goal.returns-clause-written

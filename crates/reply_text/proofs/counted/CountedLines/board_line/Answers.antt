@@ -1,4 +1,4 @@
-use Rattle.std.proofs.Common.{◌≡◌, ℕ, ◌-◌, ◌≤◌, List, length, take, drop, sym, ap, ◌∙◌, arith, length-drop, length-take-le}
+use Rattle.std.proofs.Common.{◌≡◌, ℕ, ◌-◌, ◌≤◌, length, take, drop, ap, ◌∙◌, arith, length-drop, length-take-le}
 use Rattle.board_types.specs.declared.reply.Value.{Value}
 use Rattle.reply_text.specs.Text.{value_text}
 use Rattle.reply_text.proofs.Fronts.{front_stays, before_words, line_printed}

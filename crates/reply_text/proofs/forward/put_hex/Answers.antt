@@ -1,9 +1,9 @@
-use Rattle.std.proofs.Common.{◌≡◌, ℕ, ◌+◌, ◌*◌, ◌++◌, ◌∷◌, [], List, take, drop, length, set, sym, ap, ◌∙◌, arith, append_assoc, length-set}
+use Rattle.std.proofs.Common.{◌≡◌, ℕ, ◌+◌, ◌*◌, ◌++◌, ◌∷◌, [], List, take, drop, set, ap, ◌∙◌, arith, append_assoc}
 use Rattle.std.proofs.lemmas.List.{take_more_set}
 use Rattle.reply_text.specs.Words.{hex_text}
 use Rattle.reply_text.proofs.Fronts.{written_after}
 use Rattle.reply_text.proofs.Hexes.{length-hex_text}
-use Rattle.reply_text.proofs.counted.put_hex.Goals as goal
+use Rattle.reply_text.proofs.forward.put_hex.Goals as goal
 
 pub returns-clause-written : goal.returns-clause-written
 returns-clause-written c =

@@ -1,0 +1,134 @@
+//! Words that are written one after another from a place of a buffer on, and the line that they make.
+ghost use Rattle.std.specs.Prelude.{
+  ◌≡◌,
+  ◌+◌,
+  ◌-◌,
+  ◌*◌,
+  ◌<◌,
+  ◌≤◌,
+  ◌++◌,
+  ◌∷◌,
+  [],
+  length,
+  take,
+  drop,
+  decimal,
+  OnOk,
+  OnErr,
+  vec_len,
+  vec_capacity,
+};
+ghost use Rattle.reply_text.specs.Words.{hex_text};
+
+use crate::digits::write_hex;
+use clk_units::NoMemory;
+
+/// The bytes of a line, and as many after it as are copied at once.
+pub(crate) const ROOM: usize = 96;
+
+/// Puts a word at a place, and returns where it ends.
+#[inline(always)]
+pub(crate) fn put_word(word: &[u8], text: &mut [u8; ROOM], at: usize) -> usize
+    requires { at + length word.now ≤ ROOM }
+    ensures end { result ≡ at + length word.now }
+    ensures written { take result text.new ≡ take at text.old ++ word.now }
+{
+    let end = at + word.len();
+    text[at..end].copy_from_slice(word);
+    end
+}
+
+/// Puts a number below 256 at a place, and returns where it ends.
+#[inline(always)]
+#[tactic(auto, using(std::proofs::lemmas::Fmt::decimal_digit))]
+pub(crate) fn put_small(n: u8, text: &mut [u8; ROOM], at: usize) -> usize
+    requires { at + 3 ≤ ROOM }
+    ensures short { (at ≤ result) × (result ≤ at + 3) }
+    ensures written { take result text.new ≡ take at text.old ++ decimal n }
+{
+    if n < 10 {
+        return put_digit(n, text, at);
+    }
+    if n < 100 {
+        let at = put_digit(n / 10, text, at);
+        return put_digit(n % 10, text, at);
+    }
+    let at = put_digit(n / 100, text, at);
+    let at = put_digit(n / 10 % 10, text, at);
+    put_digit(n % 10, text, at)
+}
+
+/// Puts a digit at a place, and returns where it ends.
+#[inline(always)]
+fn put_digit(n: u8, text: &mut [u8; ROOM], at: usize) -> usize
+    requires digit { n < 10 }
+    requires room { at < ROOM }
+    ensures end { result ≡ at + 1 }
+    ensures written { take result text.new ≡ take at text.old ++ (48 + n) ∷ [] }
+{
+    put_byte(b'0' + n, text, at)
+}
+
+/// Puts a byte at a place, and returns where it ends.
+#[inline(always)]
+pub(crate) fn put_byte(byte: u8, text: &mut [u8; ROOM], at: usize) -> usize
+    requires { at < ROOM }
+    ensures end { result ≡ at + 1 }
+    ensures written { take result text.new ≡ take at text.old ++ byte ∷ [] }
+{
+    text[at] = byte;
+    at + 1
+}
+
+/// Puts a space and the hexadecimal digits of the last `count` bytes of a number at a place, and returns where they end.
+#[inline(always)]
+pub(crate) fn put_hex(n: u64, count: usize, text: &mut [u8; ROOM], at: usize) -> usize
+    requires { at + 2 * count < ROOM }
+    ensures end { result ≡ at + 1 + 2 * count }
+    ensures written { take result text.new ≡ take at text.old ++ 32 ∷ hex_text (2 * count) n }
+{
+    let end = at + 1 + 2 * count;
+    text[at] = b' ';
+    write_hex(n, count, text, end);
+    end
+}
+
+/// Appends the bytes from `start` to `end`. Where there is room, more are copied, so that the compiler knows how many.
+#[inline(always)]
+pub(crate) fn append_line(
+    text: &[u8; ROOM],
+    start: usize,
+    end: usize,
+    out: &mut Vec<u8>,
+) -> Result<(), NoMemory>
+    requires order { start ≤ end }
+    requires within { (start ≤ 32) × (end ≤ ROOM) }
+    ensures ok { OnOk result (out.new.items ≡ out.old.items ++ take (end - start) (drop start text.now)) }
+    ensures err { OnErr result (out.new.items ≡ out.old.items) }
+    ensures full { OnErr result (vec_capacity out.old < vec_len out.old + (end - start)) }
+{
+    let len = end - start;
+    let room = out.capacity() - out.len();
+    if len <= 32 && 32 <= room {
+        return append_front(&text[start..start + 32], len, out);
+    }
+    if len <= 64 && 64 <= room {
+        return append_front(&text[start..start + 64], len, out);
+    }
+    out.extend_from_slice(&text[start..end])
+        .map_err(|_| NoMemory)
+}
+
+/// Appends the first bytes of some for which there is room.
+#[inline(always)]
+fn append_front(bytes: &[u8], len: usize, out: &mut Vec<u8>) -> Result<(), NoMemory>
+    requires { len ≤ length bytes.now }
+    ensures ok { OnOk result (out.new.items ≡ out.old.items ++ take len bytes.now) }
+    ensures err { OnErr result (out.new.items ≡ out.old.items) }
+    ensures full { OnErr result (vec_capacity out.old < vec_len out.old + length bytes.now) }
+{
+    let end = out.len() + len;
+    out.extend_from_slice(bytes).map_err(|_| NoMemory)?;
+    out.truncate(end);
+    Ok(())
+}
