@@ -11,9 +11,9 @@ use board_core::Reply;
 use clk_units::NoMemory;
 use reply_text::{board_line, clock_line, hv_line, page_line};
 
-/// Appends the lines of the edges of an access, and of its messages.
+/// Appends the lines of the edges of an access, and of its messages. After an `Err` the text begins as it was.
 #[inline(always)]
-pub(crate) fn event_lines(
+pub fn event_lines(
     reply: &Reply,
     deliveries: &Deliveries,
     out: &mut Vec<u8>,
@@ -29,7 +29,7 @@ pub(crate) fn event_lines(
 /// Appends the block of an access: its edges, its messages, and its line. After an `Err` the text begins as it was.
 #[inline(always)]
 #[tactic(auto, unfolding(crate::specs::Blocks::block_of))]
-pub fn access_block(
+fn access_block(
     line: u64,
     reply: &Reply,
     deliveries: &Deliveries,
