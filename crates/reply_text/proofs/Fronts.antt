@@ -227,7 +227,7 @@ written_after new old w r m long same after =
     ∙ ap (λ (t : List ℕ). t ++ drop r (take (r + m) new)) (take-take r (r + m) new (omega arith) ∙ same)
     ∙ ap (λ (t : List ℕ). take r old ++ t) (drop-take r m new ∙ ap (take m) after ∙ take_at w (drop (r + m) old) m long)
 
--- the digits of a number that were copied behind the space
+-- the digits of a number that were copied after the space
 pub number_copied : (text digits number zeros rest : List ℕ) (s : ℕ) → length text ≡ 96 → s + length number ≡ 20
     → drop s digits ≡ number ++ zeros → take (41 - s) (take 21 text ++ (take 20 (drop s digits) ++ rest)) ≡ take 21 text ++ number
 number_copied text digits number zeros rest s room place is =
@@ -294,7 +294,7 @@ three_digits n least most =
 pub chain : (p w v x y : List ℕ) → x ≡ p ++ w → y ≡ x ++ v → y ≡ p ++ (w ++ v)
 chain p w v x y e f = f ∙ ap (λ (t : List ℕ). t ++ v) e ∙ append_assoc p w v
 
--- how many bytes of a buffer stand between two places
+-- how many bytes of a buffer lie between two places
 pub length_between : (text : List ℕ) (start end : ℕ) → end ≤ length text → length (take (end - start) (drop start text)) ≡ end - start
 length_between text start end within =
     length-take-le (end - start) (drop start text) (omega (arith, length-drop start text))

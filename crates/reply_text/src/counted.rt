@@ -36,7 +36,7 @@ const DIGITS: usize = 20;
 pub struct CountedLines {
     line: u64,
     number: u64,
-    /// The digits of the line, which end at place 20, a space, and the digits of the number stand from `start` to `end`.
+    /// The digits of the line, which end at place 20, a space, and the digits of the number lie from `start` to `end`.
     text: [u8; ROOM],
     start: usize,
     end: usize,

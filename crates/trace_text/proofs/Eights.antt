@@ -261,7 +261,7 @@ digits-word xs i (suc k) fit =
     let more : 256 ^ suc k ≡ 256 ^ k * 256 = power 256 k in
     rw more (omega (arith, fit.0, digits-word xs (i + 1) k fit.1))
 
--- the digits moved up to the end of the word, behind zeros
+-- the digits moved up to the end of the word, with zeros before them
 up : (k n rest : ℕ) → k < 8 → n < 256 ^ k → (n + far k rest) * 2 ^ (56 - 8 * k) % 18446744073709551616 * 256 % 18446744073709551616 ≡ n * 256 ^ (8 - k)
 up zero n rest l fit = omega arith
 up (suc zero) n rest l fit = omega arith
