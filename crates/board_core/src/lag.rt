@@ -23,6 +23,7 @@ ghost use Rattle.board_core.specs.Lazy.{
 };
 
 use crate::board::BoardState;
+use crate::refusals::known_time;
 use board_devices::Devices;
 use board_types::{Access, MOST_ACCESSES, Refusal, Reply, Value};
 use clk_units::RANGE_NS;
@@ -219,7 +220,7 @@ impl BoardState {
         if h <= self.host {
             return self.time_ns;
         }
-        self.anchor.time_of(h).max(self.time_ns)
+        known_time(self.anchor, h).max(self.time_ns)
     }
 
     /// Lets the time up to that of count `h` pass, without an access. Its edges and messages are not told.

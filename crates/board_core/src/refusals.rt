@@ -115,6 +115,20 @@ fn nanoseconds(anchor: Anchor, h: u64) -> Option<u64>
     }
 }
 
+/// The time at a count that has one.
+#[inline(always)]
+#[tactic(auto, using(crate::proofs::Times::time_at_counts))]
+pub(crate) fn known_time(anchor: Anchor, h: u64) -> u64
+    requires rate { IsKhz anchor.khz }
+    requires time { HasTime anchor h }
+    ensures { result ≡ time_at anchor h }
+{
+    if anchor.khz == NANOSECONDS_KHZ {
+        return anchor.base_ns + (h - anchor.start);
+    }
+    anchor.time_of(h)
+}
+
 /// Whether an access publishes the words of the wall clock.
 #[inline(always)]
 pub fn publishes_wall(a: Access) -> bool

@@ -133,8 +133,9 @@ pub record Brought (d : DeviceParts) (t n : ℕ) (rises : Rises) (events : RtcEv
   pub rtc_first : counts_rtc d ≡ true → IsFirst (ticks_in (divider_of d.rtc)) (pulses_from RTC_HZ t n) events.cycle.first_tick
   pub update_first : uie_of d.rtc ≡ true → IsFirst (updates_in (divider_of d.rtc)) (pulses_from RTC_HZ t n) events.cycle.first_update
   pub alarm_first : aie_of d.rtc ≡ true → IsFirst (alarms_in d.rtc) (pulses_from RTC_HZ t n) events.first_alarm
-  pub timer_count : (k : ℕ) → (timer_matches ms k).count ≡ matches_of k d.hpet (pulses_from HPET_HZ t n)
-  pub timer_first : (k : ℕ) → IsFirst (matches_of k d.hpet) (pulses_from HPET_HZ t n) (timer_matches ms k).first
+  -- and of the matches those of timers that are enabled
+  pub timer_count : (k : ℕ) → is_enabled (timer_at k d.hpet) ≡ true → (timer_matches ms k).count ≡ matches_of k d.hpet (pulses_from HPET_HZ t n)
+  pub timer_first : (k : ℕ) → is_enabled (timer_at k d.hpet) ≡ true → IsFirst (matches_of k d.hpet) (pulses_from HPET_HZ t n) (timer_matches ms k).first
 
 due-end : (P to : ℕ) (s : Ticks) (l : TickParts) → (end_of P to s l).counts.due ≤ l.counts.due + s.count
 due-end P to s l = by_test s.seen
@@ -142,6 +143,14 @@ due-end P to s l = by_test s.seen
     by_test : (b : Bool) → (cond b (line_end P to s.first s.count l) l).counts.due ≤ l.counts.due + s.count
     by_test true = omega (arith, due-line_end P to s.first s.count l)
     by_test false = omega arith
+
+-- a timer that has ticks is enabled
+pub enabled_of : (k : ℕ) (h : HpetParts) → has_ticks k h ≡ true → is_enabled (timer_at k h) ≡ true
+enabled_of k h on = by_test (is_enabled (timer_at k h)) (not (is_level (timer_at k h))) (not (is_message k h)) on
+  where
+    by_test : (a b c : Bool) → ((a && b) && c) ≡ true → a ≡ true
+    by_test true b c e = refl
+    by_test false b c e = absurd (true≢false (sym e))
 
 -- all that is known of a stretch
 pub record Known (d : DeviceParts) (t n c : ℕ) (rises : Rises) (events : RtcEvents) (ms : List Matches) (pit rtc : Ticks) : Type 0 where
@@ -171,9 +180,10 @@ module _ {d : DeviceParts} {t n c : ℕ} {rises : Rises} {events : RtcEvents} {m
   known (suc (suc k)) h = record {
     seen = refl;
     counts = counts-where (has_ticks k d.hpet) (matches_of k d.hpet) HPET_HZ t (omega arith) (CountsUp-matches_of k d.hpet);
-    number = number-where (has_ticks k d.hpet) (matches_of k d.hpet) HPET_HZ t n (timer_matches ms k).count (λ _. know.brought.timer_count k);
+    number = number-where (has_ticks k d.hpet) (matches_of k d.hpet) HPET_HZ t n (timer_matches ms k).count
+        (λ on. know.brought.timer_count k (enabled_of k d.hpet on));
     first = first-where (has_ticks k d.hpet) (matches_of k d.hpet) HPET_HZ t n (timer_matches ms k).first (omega arith) (CountsUp-matches_of k d.hpet)
-        (λ _. know.brought.timer_first k);
+        (λ on. know.brought.timer_first k (enabled_of k d.hpet on));
   }
 
   -- the lines at the end
@@ -196,9 +206,9 @@ module _ {d : DeviceParts} {t n c : ℕ} {rises : Rises} {events : RtcEvents} {m
       ∙ ap (λ (i : ℕ). line_run d t j i (line_at k d)) (omega arith))
       ∙ run-up d t n k c (ticks_at t d.hpet ms pit rtc k) (line_at k d) (known k less) know.point j le
 
-  by_level : (l flag event en up : Bool) (j : ℕ) (first line : Option ℕ) → (l ≡ true → event ≡ is_up_at (t + j) first) → up ≡ is_up_at (t + j) line
+  by_level : (l flag event en up : Bool) (j : ℕ) (first line : Option ℕ) → (l ≡ true → en ≡ true → event ≡ is_up_at (t + j) first) → up ≡ is_up_at (t + j) line
       → cond l ((flag || (event && l)) && en) up ≡ is_up_at (t + j) (cond l (flag_from en flag t first) line)
-  by_level true flag event en up j first line h u = ap (λ (x : Bool). (flag || x) && en) (and-true event) ∙ flag-up en flag event t j first (λ _. h refl)
+  by_level true flag event en up j first line h u = ap (λ (x : Bool). (flag || x) && en) (and-true event) ∙ flag-up en flag event t j first (h refl)
   by_level false flag event en up j first line h u = u
 
   -- the output of timer k
@@ -239,8 +249,8 @@ module _ {d : DeviceParts} {t n c : ℕ} {rises : Rises} {events : RtcEvents} {m
       ∙ by_level (is_level (timer_at k d.hpet)) (bit k d.hpet.status) (ltb 0 (matches_of k d.hpet (pulses_from HPET_HZ t j))) (is_enabled (timer_at k d.hpet))
       (not (is_message k d.hpet) && (line_at (suc (suc k)) (parted t j d)).up) j (first_at HPET_HZ t (timer_matches ms k).first)
       (cond (is_message k d.hpet) None (up_at (suc (suc k))))
-      (λ _. event-up (matches_of k d.hpet) HPET_HZ t n (timer_matches ms k).first (omega arith) (CountsUp-matches_of k d.hpet)
-      (know.brought.timer_first k) j le)
+      (λ _ on. event-up (matches_of k d.hpet) HPET_HZ t n (timer_matches ms k).first (omega arith) (CountsUp-matches_of k d.hpet)
+      (know.brought.timer_first k on) j le)
       (hidden-up (is_message k d.hpet) (line_at (suc (suc k)) (parted t j d)).up (t + j) (up_at (suc (suc k))) (line-up j (suc (suc k)) le (omega arith)))
 
   -- the timers routed to a line

@@ -7,7 +7,8 @@ use Rattle.irq_edges.proofs.RisesOf.{run-edges, rises_of-next, rises_of-none, ri
 use Rattle.irq_edges.proofs.UpFrom.{changes-some}
 use Rattle.board_devices.specs.declared.parts.DeviceParts.{DeviceParts}
 use Rattle.board_devices.specs.Lines.{levels}
-use Rattle.board_devices.specs.Run.{run, onward, IsNextEdge}
+use Rattle.board_devices.specs.Run.{run, onward}
+use Rattle.board_devices.specs.private.Runs.{IsEdgeBy}
 use Rattle.board_devices.specs.private.Stretch.{told_levels}
 
 module _ (d : DeviceParts) (us : List (Option ℕ)) (t to : ℕ) (levels_are : (j : ℕ) → t + j ≤ to → levels (run t j d).state ≡ levels_at (t + j) us) where
@@ -15,12 +16,11 @@ module _ (d : DeviceParts) (us : List (Option ℕ)) (t to : ℕ) (levels_are : (
   unfolding run onward
   edges-run n h = run-edges line_numbers us t (λ j. levels (run t j d).state) (λ j. (run t j d).edges) refl (λ j. refl) n (λ j le. levels_are j (omega arith))
 
-  pub next-is : (next : Option ℕ) → t ≤ to → to ≡ 576460752303423487 → length us ≤ 6 → IsNextRise us t to next → IsNextEdge t d next
-  next-is None order last few is_next = subst (λ (x : ℕ). (run t (x - t) d).edges ≡ []) last
-      (edges-run (to - t) (omega arith) ∙ rises_of-none line_numbers us t to (to - t) is_next (omega arith))
-  next-is (Some r) order last few is_next = (
+  pub next-is : (next : Option ℕ) → t ≤ to → length us ≤ 6 → IsNextRise us t to next → IsEdgeBy t to d next
+  next-is None order few is_next = edges-run (to - t) (omega arith) ∙ rises_of-none line_numbers us t to (to - t) is_next (omega arith)
+  next-is (Some r) order few is_next = (
     is_next.0,
-    omega (arith, is_next.1, last),
+    is_next.1,
     edges-run (r - 1 - t) (omega (arith, is_next.1)) ∙ rises_of-before line_numbers us t to r (r - 1 - t) is_next (omega (arith, is_next.0)),
     subst (λ (es : List Edge). es ≢ []) (sym (edges-run (r - t) (omega (arith, is_next.1, is_next.0)) ∙ rises_of-next line_numbers us t to r is_next))
         (changes-some r t r r line_numbers us few is_next.2 is_next.0 (omega arith)),

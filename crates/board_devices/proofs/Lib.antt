@@ -16,6 +16,7 @@ pub mod ActEdges
 pub mod Upgrade
 pub mod Still
 pub mod Idle
+pub mod QuietRuns
 pub mod QuietWrites
 pub mod AckLevels
 pub mod AckEdges

@@ -1,10 +1,10 @@
--- A stretch that moves no line: no update, no catch-up point, and ticks that find their lines up alone.
+-- A stretch that moves no line: no update, ticks that find their lines up alone, and no catch-up point that finds a line that waits.
 use Rattle.std.proofs.Common.{◌≡◌, ℕ, zero, suc, ◌+◌, ◌<◌, ◌≤◌, Bool, true, false, cond, ltb, eqb, ◌&&◌, ◌||◌, not, List, [], ◌++◌}
 use Rattle.std.proofs.Common.{◌⊎◌, refl, ap, sym, ◌∙◌, inl, inr, arith}
 use Rattle.pit_readback.specs.declared.TheConstants.{PIT_HZ}
 use Rattle.rtc_registers.specs.declared.TheConstants.{RTC_HZ}
 use Rattle.hpet_registers.specs.declared.hpet.TheConstants.{HPET_HZ}
-use Rattle.std.proofs.Math.Bool.{or-false}
+use Rattle.std.proofs.Math.Bool.{and-false, or-false}
 use Rattle.std.proofs.lemmas.Bool.{le-ltb, cases_lt}
 use Rattle.clk_units.specs.Events.{CountsUp}
 use Rattle.clk_units.specs.Pulses.{pulses_from}
@@ -27,13 +27,13 @@ use Rattle.rtc_registers.proofs.Lines.{irqf_of-rtc_pulsed_times}
 use Rattle.clk_units.specs.Bits.{bit}
 use Rattle.hpet_comparator.specs.Parts.{is_level, is_enabled, route_of}
 use Rattle.hpet_registers.specs.Parts.{timer_at, is_legacy}
-use Rattle.hpet_registers.specs.Outputs.{has_ticks, is_message}
+use Rattle.hpet_registers.specs.Outputs.{has_ticks, is_message, level_output}
 use Rattle.hpet_registers.proofs.After.{is_message-hpet_pulsed_times}
 use Rattle.hpet_registers.specs.Stretch.{hpet_pulsed_times, matches_of}
 use Rattle.hpet_registers.proofs.Product.{timer_config-hpet_pulsed_times, status_bit-hpet_pulsed_times, is_legacy-hpet_pulsed_times}
 use Rattle.hpet_registers.proofs.Product.{CountsUp-matches_of}
 use Rattle.tick_policy.specs.declared.parts.TickParts.{TickParts}
-use Rattle.tick_policy.specs.Line.{ticked_times}
+use Rattle.tick_policy.specs.Line.{ticked_times, is_waiting}
 use Rattle.tick_policy.specs.Stretch.{IsFirstPoint, line_after}
 use Rattle.tick_policy.proofs.Ticks.{ticked_times-zero}
 use Rattle.tick_policy.proofs.Stretches.{line_after-early, line_after-up}
@@ -44,6 +44,7 @@ use Rattle.board_devices.specs.Lines.{output_of, drives, routed, levels}
 use Rattle.board_devices.specs.Run.{run, onward}
 use Rattle.board_devices.specs.private.Pulses.{is_unheard}
 use Rattle.board_devices.specs.private.Stretch.{source, line_run, flagged_where, parted}
+use Rattle.board_devices.proofs.Idle.{line_after-idle}
 use Rattle.board_devices.proofs.Unheard.{irqf-unheard}
 use Rattle.board_devices.proofs.Places.{each-at, same_six}
 use Rattle.board_devices.proofs.Product.{Sound, run-parted, same_parts, flag-same, flag-none}
@@ -52,19 +53,21 @@ use Rattle.board_devices.proofs.Advance.{counts-where}
 pub record Quiet (d : DeviceParts) (t n c : ℕ) : Type 0 where
   pub sound : Sound d
   pub point : IsFirstPoint d.slew_ns t c
-  pub early : n < c
+  -- no catch-up point comes, or one that finds the line as it leaves it
+  pub early : (k : ℕ) → k < 10 → (n < c) ⊎ ((is_waiting (line_at k d) ≡ false) × (source d t k n ≡ 0))
   -- the MC146818 has no event, or nobody hears it
   pub clock : (is_unheard d.rtc ≡ true)
       ⊎ ((ticks_in (divider_of d.rtc) (pulses_from RTC_HZ t n) ≡ 0) × (updates_in (divider_of d.rtc) (pulses_from RTC_HZ t n) ≡ 0))
-  -- ticks find their line up, and no timer of level type matches
+  -- ticks find their line up, and no timer of level type that is enabled matches
   pub found : (k : ℕ) → k < 10 → 0 < source d t k n → (line_at k d).up ≡ true
-  pub level : (k : ℕ) → k < 8 → is_level (timer_at k d.hpet) ≡ true → matches_of k d.hpet (pulses_from HPET_HZ t n) ≡ 0
+  pub level : (k : ℕ) → k < 8 → is_level (timer_at k d.hpet) ≡ true → is_enabled (timer_at k d.hpet) ≡ true
+      → matches_of k d.hpet (pulses_from HPET_HZ t n) ≡ 0
 
 -- none so far, where none by the end
 none-before : (count : ℕ → ℕ) (hz t j n : ℕ) → CountsUp count → j ≤ n → count (pulses_from hz t n) ≡ 0 → count (pulses_from hz t j) ≡ 0
 none-before count hz t j n up le none = omega (arith, CountsUp-mono count up (pulses_from hz t j) (pulses_from hz t n) (pulses_from-mono hz t j n le), none)
 
-counts-source : (d : DeviceParts) (t k : ℕ) → CountsUp (source d t k)
+pub counts-source : (d : DeviceParts) (t k : ℕ) → CountsUp (source d t k)
 counts-source d t zero = counts-where (not (is_legacy d.hpet)) (rises_in (counter_of d.pit 0)) PIT_HZ t (omega arith) (CountsUp-rises_in (counter_of d.pit 0))
 counts-source d t (suc zero) = counts-where (counts_rtc d) (ticks_in (divider_of d.rtc)) RTC_HZ t (omega arith) (CountsUp-ticks_in (divider_of d.rtc))
 counts-source d t (suc (suc k)) = counts-where (has_ticks k d.hpet) (matches_of k d.hpet) HPET_HZ t (omega arith) (CountsUp-matches_of k d.hpet)
@@ -81,10 +84,12 @@ module _ {d : DeviceParts} {t n c : ℕ} (quiet : Quiet d t n c) where
     | inl some ↦ line_after-up (source d t k) d.slew_ns t j (line_at k d) (quiet.found k less some) ∙ sym (quiet.found k less some)
     | inr few ↦
         let none : source d t k j ≡ 0 = omega (arith, CountsUp-mono (source d t k) (counts-source d t k) j n le) in
-        ap (λ (l : TickParts). l.up) (line_after-early (source d t k) d.slew_ns t c j (line_at k d) (counts-source d t k) quiet.point
-        (inl (omega (arith, quiet.early)))
-        ∙ ap (λ (m : ℕ). ticked_times m (line_at k d)) none
-        ∙ ticked_times-zero (line_at k d))
+        ap (λ (l : TickParts). l.up) (elim (quiet.early k less) [
+          | inl before ↦ line_after-early (source d t k) d.slew_ns t c j (line_at k d) (counts-source d t k) quiet.point (inl (omega (arith, before, le)))
+              ∙ ap (λ (m : ℕ). ticked_times m (line_at k d)) none
+              ∙ ticked_times-zero (line_at k d)
+          | inr idle ↦ line_after-idle (source d t k) d.slew_ns t j (line_at k d) (counts-source d t k) idle.0 none
+        ])
   ]
 
   line_run-still : (k : ℕ) → k < 10 → (j : ℕ) → j ≤ n → (line_run d t j k (line_at k d)).up ≡ (line_at k d).up
@@ -104,7 +109,7 @@ module _ {d : DeviceParts} {t n c : ℕ} (quiet : Quiet d t n c) where
       (pf_of-rtc_pulsed_times (pulses_from RTC_HZ t j) d.rtc quiet.sound.rtc)
 
   -- the devices had their pulses, and the lines their ticks
-  abbrev moved : ℕ → DeviceParts
+  abbrev pub moved : ℕ → DeviceParts
   moved j = record d {
     pit = pit_pulsed_times (pulses_from PIT_HZ t j) d.pit;
     rtc = rtc_pulsed_times (pulses_from RTC_HZ t j) d.rtc;
@@ -113,7 +118,7 @@ module _ {d : DeviceParts} {t n c : ℕ} (quiet : Quiet d t n c) where
     ticks = each (line_run d t j) 0 d.ticks;
   }
 
-  parted-still : (j : ℕ) → j ≤ n → parted t j d ≡ moved j
+  pub parted-still : (j : ℕ) → j ≤ n → parted t j d ≡ moved j
   unfolding parted
   parted-still j le = same_parts d refl (flag-still j le) refl refl
 
@@ -129,27 +134,32 @@ module _ {d : DeviceParts} {t n c : ℕ} (quiet : Quiet d t n c) where
   legacy-still : (j : ℕ) → is_legacy (hpet_pulsed_times (pulses_from HPET_HZ t j) d.hpet) ≡ is_legacy d.hpet
   legacy-still j = is_legacy-hpet_pulsed_times (pulses_from HPET_HZ t j) d.hpet
 
-  status-still : (j k : ℕ) → j ≤ n → k < 8 → bit k (hpet_pulsed_times (pulses_from HPET_HZ t j) d.hpet).status ≡ bit k d.hpet.status
+  status-still : (j k : ℕ) → j ≤ n → k < 8
+      → (bit k (hpet_pulsed_times (pulses_from HPET_HZ t j) d.hpet).status && is_enabled (timer_at k d.hpet)) ≡ level_output k d.hpet
   status-still j k le small =
-      status_bit-hpet_pulsed_times k (pulses_from HPET_HZ t j) d.hpet small
-      ∙ ap (λ (b : Bool). bit k d.hpet.status || b) (by_level (is_level (timer_at k d.hpet)) refl) ∙ or-false (bit k d.hpet.status)
+      ap (λ (b : Bool). b && is_enabled (timer_at k d.hpet)) (status_bit-hpet_pulsed_times k (pulses_from HPET_HZ t j) d.hpet small)
+      ∙ by_test (is_level (timer_at k d.hpet)) (is_enabled (timer_at k d.hpet)) refl refl
     where
-      by_level : (b : Bool) → is_level (timer_at k d.hpet) ≡ b → (ltb 0 (matches_of k d.hpet (pulses_from HPET_HZ t j)) && b) ≡ false
-      by_level true e =
-          let none : matches_of k d.hpet (pulses_from HPET_HZ t j)
-          ≡ 0 = none-before (matches_of k d.hpet) HPET_HZ t j n (CountsUp-matches_of k d.hpet) le (quiet.level k small e) in
-          ap (λ (m : ℕ). ltb 0 m && true) none ∙ ap (λ (b : Bool). b && true) (le-ltb 0 0 (omega arith))
-      by_level false e = last (ltb 0 (matches_of k d.hpet (pulses_from HPET_HZ t j)))
-        where
-          last : (b : Bool) → (b && false) ≡ false
-          last true = refl
-          last false = refl
+      m : ℕ
+      m = matches_of k d.hpet (pulses_from HPET_HZ t j)
+
+      by_test : (l e : Bool) → is_level (timer_at k d.hpet) ≡ l → is_enabled (timer_at k d.hpet) ≡ e
+          → ((bit k d.hpet.status || (ltb 0 m && l)) && e) ≡ (bit k d.hpet.status && e)
+      by_test true true is_l is_e =
+          let none : m
+          ≡ 0 = none-before (matches_of k d.hpet) HPET_HZ t j n (CountsUp-matches_of k d.hpet) le (quiet.level k small is_l is_e) in
+          ap (λ (x : ℕ). (bit k d.hpet.status || (ltb 0 x && true)) && true) none
+          ∙ ap (λ (b : Bool). (bit k d.hpet.status || (b && true)) && true) (le-ltb 0 0 (omega arith))
+          ∙ ap (λ (b : Bool). b && true) (or-false (bit k d.hpet.status))
+      by_test l false is_l is_e = and-false (bit k d.hpet.status || (ltb 0 m && l)) ∙ sym (and-false (bit k d.hpet.status))
+      by_test false true is_l is_e =
+          ap (λ (b : Bool). (bit k d.hpet.status || b) && true) (and-false (ltb 0 m)) ∙ ap (λ (b : Bool). b && true) (or-false (bit k d.hpet.status))
 
   output-still : (j k : ℕ) → j ≤ n → k < 8 → output_of k (moved j) ≡ output_of k d
   output-still j k le small =
       ap (λ (g : ℕ). cond (bit 1 g) (bit k (hpet_pulsed_times (pulses_from HPET_HZ t j) d.hpet).status && bit 2 g)
       (not (is_message k (moved j).hpet) && (line_at (suc (suc k)) (moved j)).up)) (config-still j k)
-      ∙ ap (λ (b : Bool). cond (is_level (timer_at k d.hpet)) (b && is_enabled (timer_at k d.hpet))
+      ∙ ap (λ (b : Bool). cond (is_level (timer_at k d.hpet)) b
       (not (is_message k (moved j).hpet) && (line_at (suc (suc k)) (moved j)).up)) (status-still j k le small)
       ∙ ap (λ (m : Bool). cond (is_level (timer_at k d.hpet)) (bit k d.hpet.status && is_enabled (timer_at k d.hpet))
       (not m && (line_at (suc (suc k)) (moved j)).up)) (is_message-hpet_pulsed_times k (pulses_from HPET_HZ t j) d.hpet)

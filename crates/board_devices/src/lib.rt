@@ -26,6 +26,7 @@ mod messages;
 mod parts;
 mod port_reads;
 mod pulse_counts;
+mod quiet;
 mod run;
 mod stretch;
 

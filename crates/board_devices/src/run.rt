@@ -32,13 +32,14 @@ ghost use Rattle.board_devices.specs.Lines.{levels};
 ghost use Rattle.board_devices.specs.Run.{IsStretch, run, IsNextEdge};
 ghost use Rattle.board_devices.specs.Parts.{IsDevices};
 ghost use Rattle.board_devices.specs.private.Pulses.{AreHeard, is_unheard, left_pulses};
-ghost use Rattle.board_devices.specs.private.Runs.{HasAdvanced, passed};
+ghost use Rattle.board_devices.specs.private.Runs.{HasAdvanced, IsEdgeBy, passed};
 
 use crate::clock::{counts_rtc, is_unheard, set_flag};
 use crate::devices::Devices;
 use crate::found_up::{brought_nothing, finds_up, take_matches};
 use crate::levels::{front_times, irq_up, shown_of};
 use crate::pulse_counts::{PulseCounts, pulse_counts};
+use crate::quiet::pulse_hpet;
 use crate::stretch::{Span, count_ticks, run_clock, run_pit, run_timers};
 use clk_units::RANGE_NS;
 use hpet_comparator::Matches;
@@ -50,27 +51,25 @@ impl Devices {
     /// Runs from nanosecond `from` to `to`. Answers whether something came that could move a line,
     /// and then puts into `times` from when on each line is up.
     // Most stretches bring nothing: a frame of its own would cost as much as what is done here.
-    // Those in which the crystal of an MC146818 pulses that may interrupt are few, and have one.
     #[inline(always)]
     fn advance(&mut self, from: u64, to: u64, times: &mut [Option<u64>; 6]) -> bool
         requires { IsStretch from to self.old }
         ensures { HasAdvanced from to self.old self.new result times.new }
     {
         let pulses = pulse_counts(from, to);
-        let heard = heard_pulses(&self.rtc, pulses);
-        if heard.rtc > 0 {
-            return self.advance_apart(from, to, heard, times);
+        if self.is_quiet(from, to, pulses) {
+            self.pass(from, to, pulses);
+            return false;
         }
-        let moved = self.advance_by(from, to, PulseCounts { rtc: 0, ..heard }, times);
-        if pulses.rtc > 0 {
-            self.rtc.pass(pulses.rtc);
-        }
+        let heard = heard_counts(&self.rtc, pulses);
+        let moved = self.advance_by(from, to, heard, times);
+        self.rtc.pass(pulses.rtc - heard.rtc);
         moved
     }
 
     /// The same by the pulses of the stretch, but for those of a clock that nobody hears: they are
     /// left to the caller. Ticks that find their lines up move none: they are counted alone.
-    #[inline(always)]
+    #[inline(never)]
     fn advance_by(
         &mut self,
         from: u64,
@@ -89,7 +88,7 @@ impl Devices {
         let status = self.hpet.parts().status;
         let point = next_point(from, self.slew_ns);
         let mut matches = [Matches::NONE; 8];
-        let reach = self.hpet.pulses(pulses.hpet, &mut matches);
+        let reach = pulse_hpet(&mut self.hpet, pulses.hpet, &mut matches);
         let rises = self.pit.pulses(pulses.pit);
         let shown = shown_of(&self.rtc);
         let events = clock_pulses(&mut self.rtc, pulses.rtc);
@@ -111,24 +110,6 @@ impl Devices {
         *times = front_times(legacy, pit_up, irq);
         run_timers(&mut self.ticks, &self.hpet, status, &matches, span, times);
         true
-    }
-
-    /// The same, with a frame of its own.
-    #[inline(never)]
-    fn advance_apart(
-        &mut self,
-        from: u64,
-        to: u64,
-        pulses: PulseCounts,
-        times: &mut [Option<u64>; 6],
-    ) -> bool
-        requires stretch { IsStretch from to self.old }
-        requires pulses { AreHeard from to self.old.rtc pulses }
-        ensures ran { HasAdvanced from to self.old
-            (passed (left_pulses from to self.old.rtc) self.new) result times.new }
-        ensures joined { IsDevices (passed (left_pulses from to self.old.rtc) self.new) }
-    {
-        self.advance_by(from, to, pulses, times)
     }
 
     /// Runs from nanosecond `from` to `to`, and appends the edges on the way. Six places must be
@@ -162,25 +143,46 @@ impl Devices {
     }
 
     /// The first nanosecond after `now` at which a line changes if no access comes, below 2^59.
+    // Most boards have an edge soon. Over the whole range a clock that is heard has as many updates as there are seconds.
     pub fn next_edge(&self, now: u64) -> Option<u64>
         requires range { now < 2 ^ 59 }
         requires room { (k : ℕ) → k < 10 → (line_at k self.now).counts.due
             + (RANGE_NS - 1 - now) < 2 ^ 63 }
         ensures { IsNextEdge now self.now result }
     {
-        let mut copy = *self;
-        let mut times = [None; 6];
-        let pulses = heard_pulses(&self.rtc, pulse_counts(now, RANGE_NS - 1));
-        if !copy.advance_apart(now, RANGE_NS - 1, pulses, &mut times) {
+        let soon = (now + SOON_NS).min(RANGE_NS - 1);
+        match self.edge_by(now, soon) {
+            Some(edge) => Some(edge),
+            None => self.edge_by(now, RANGE_NS - 1),
+        }
+    }
+
+    /// The first after `now` and up to `to`.
+    fn edge_by(&self, now: u64, to: u64) -> Option<u64>
+        requires { IsStretch now to self.now }
+        ensures { IsEdgeBy now to self.now result }
+    {
+        let _clock = self.rtc.parts();
+        let pulses = pulse_counts(now, to);
+        if self.is_quiet(now, to, pulses) {
             return None;
         }
-        next_rise(&times, now, RANGE_NS - 1)
+        let heard = heard_counts(&self.rtc, pulses);
+        let mut copy = *self;
+        let mut times = [None; 6];
+        if !copy.advance_by(now, to, heard, &mut times) {
+            return None;
+        }
+        next_rise(&times, now, to)
     }
 }
 
+/// How far an edge is looked for at first (own).
+const SOON_NS: u64 = 1 << 26;
+
 /// The pulses that a run takes: without those of a clock that nobody hears.
 #[inline(always)]
-fn heard_pulses(rtc: &Rtc, pulses: PulseCounts) -> PulseCounts
+fn heard_counts(rtc: &Rtc, pulses: PulseCounts) -> PulseCounts
     ensures { result ≡ (if is_unheard rtc.now then record pulses { rtc = 0 } else pulses) }
 {
     if is_unheard(rtc) {
@@ -254,8 +256,9 @@ const USUAL_SLEW_NS: u64 = 1_000_000;
 
 /// The first catch-up point after `from`.
 // A division by a number that the compiler knows is a product, which takes a tenth of the time.
+#[inline(always)]
 #[tactic(auto, using(crate::proofs::Times::point_fits))]
-fn next_point(from: u64, slew_ns: u64) -> u64
+pub(crate) fn next_point(from: u64, slew_ns: u64) -> u64
     requires range { from < 2 ^ 59 }
     requires low { 1 ≤ slew_ns }
     requires high { slew_ns ≤ 1000000000 }

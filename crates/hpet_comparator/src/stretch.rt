@@ -1,6 +1,6 @@
 //! Many pulses at once.
 
-ghost use Rattle.std.specs.Prelude.{◌≡◌, ℕ, suc, ◌+◌, ◌/◌, ◌<◌, ◌≤◌, IsTrue};
+ghost use Rattle.std.specs.Prelude.{◌≡◌, ℕ, suc, ◌+◌, ◌/◌, ◌<◌, ◌≤◌, ◌↔◌, IsTrue};
 ghost use Rattle.clk_units.specs.Events.{IsFirst};
 ghost use Rattle.hpet_comparator.specs.Counter.{counter_after};
 ghost use Rattle.hpet_comparator.specs.Parts.{IsTimer};
@@ -54,10 +54,19 @@ impl TimerParts {
             MODULUS_64
         }
     }
+
+    /// Whether none of the `n` pulses that follow the main counter's value `from` is a match.
+    #[inline(always)]
+    pub fn is_quiet(&self, from: u64, n: u64) -> bool
+        requires { IsTimer self.now }
+        ensures { IsTrue result ↔ (matches_in from self.now n ≡ 0) }
+    {
+        n <= pulses_before(self, from)
+    }
 }
 
 /// How many pulses, from a main counter at `from` on, come before the timer's next match.
-#[inline]
+#[inline(always)]
 fn pulses_before(parts: &TimerParts, from: u64) -> u64
     requires valid { IsTimer parts.now }
     ensures due { IsDue from parts.now (result + 1) }

@@ -5,7 +5,7 @@ ghost use Rattle.std.specs.Prelude.{◌≤◌, ◌↔◌, ◌⊎◌, true, IsTru
 ghost use Rattle.std.specs.Prelude.{nat_lt, if◌then◌else◌};
 ghost use Rattle.clk_units.specs.Events.{IsFirst};
 ghost use Rattle.clk_units.specs.Bits.{bit};
-ghost use Rattle.hpet_comparator.specs.Parts.{IsTimer, is_level};
+ghost use Rattle.hpet_comparator.specs.Parts.{IsTimer, is_level, is_enabled};
 ghost use Rattle.hpet_comparator.specs.Stretch.{spacing_of, matches_in, falls_on};
 ghost use Rattle.hpet_registers.specs.Parts.{
   IsHpet,
@@ -192,6 +192,24 @@ impl Hpet {
         ensures reach { (k : ℕ) → result ≤ k → (timer_matches matches.new k).count ≡ 0 }
     {
         stretch::pulse(&mut self.parts, n, matches)
+    }
+
+    /// Counts `n` pulses, as `pulses` does, for a caller that asks for no matches.
+    // A caller pays for a few tests where the counter alone changes.
+    #[inline(always)]
+    pub fn pass(&mut self, n: u64)
+        ensures { self.new ≡ hpet_pulsed_times n self.old }
+    {
+        stretch::pass(&mut self.parts, n);
+    }
+
+    /// Whether no enabled timer matches within `n` pulses.
+    #[inline(always)]
+    pub fn is_quiet(&self, n: u64) -> bool
+        ensures { result ≡ true → (k : ℕ) → k < self.now.timers → is_enabled (timer_at k self.now) ≡ true
+            → matches_of k self.now n ≡ 0 }
+    {
+        stretch::is_quiet(&self.parts, n)
     }
 
     /// The configuration: bit 0 ENABLE, bit 1 legacy replacement.

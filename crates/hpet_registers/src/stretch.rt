@@ -1,9 +1,9 @@
 //! The pulses of all timers at once.
 
-ghost use Rattle.std.specs.Prelude.{◌≡◌, ℕ, suc, ◌<◌, ◌≤◌, ◌&&◌, nat_lt, if◌then◌else◌};
+ghost use Rattle.std.specs.Prelude.{◌≡◌, ℕ, suc, ◌<◌, ◌≤◌, ◌&&◌, true, length, nat_lt, if◌then◌else◌};
 ghost use Rattle.std.specs.Prelude.{slice_set, bit_or, ◌^◌, ◌+◌, map};
 ghost use Rattle.clk_units.specs.Events.{IsFirst};
-ghost use Rattle.hpet_comparator.specs.Parts.{IsTimer, is_level};
+ghost use Rattle.hpet_comparator.specs.Parts.{IsTimer, is_level, is_enabled};
 ghost use Rattle.hpet_comparator.specs.Stretch.{pulsed_times, matches_in, spacing_of, falls_on};
 ghost use Rattle.hpet_registers.specs.Parts.{IsHpet, timer_at};
 ghost use Rattle.hpet_registers.specs.Stretch.{
@@ -13,7 +13,7 @@ ghost use Rattle.hpet_registers.specs.Stretch.{
   matches_of,
   timer_matches,
 };
-ghost use Rattle.hpet_registers.specs.private.Matches.{AreMatches, AreMatchesBelow};
+ghost use Rattle.hpet_registers.specs.private.Matches.{AreMatches, AreMatchesBelow, IsStill};
 
 use crate::parts::HpetParts;
 use hpet_comparator::{MainCounter, Matches, Timer};
@@ -126,4 +126,80 @@ pub(crate) fn pulse(parts: &mut HpetParts, n: u64, matches: &mut [Matches; 8]) -
     counter.pulses(n);
     parts.counter = counter.value;
     reach
+}
+
+/// Whether no match of `n` pulses of a counter that runs changes a timer or the status: each timer that is periodic or of
+/// level type has none.
+#[inline(always)]
+fn keeps_timers(parts: &HpetParts, n: u64) -> bool
+    requires { IsHpet parts.now }
+    ensures still { result ≡ true → (k : ℕ) → k < parts.now.timers → IsStill parts.now.counter n (timer_at k parts.now) }
+    ensures places { length parts.now.timer ≡ 8 }
+{
+    for k in 0..parts.timers {
+        let timer = &parts.timer[k as usize];
+        if (timer.is_periodic() || timer.is_level()) && !timer.is_quiet(parts.counter, n) {
+            return false;
+        }
+    }
+    true
+}
+
+/// Whether `n` pulses of a counter that runs bring no match of an enabled timer.
+#[inline(always)]
+fn has_no_enabled_match(parts: &HpetParts, n: u64) -> bool
+    requires { IsHpet parts.now }
+    ensures { result ≡ true → (k : ℕ) → k < parts.now.timers → is_enabled (timer_at k parts.now) ≡ true
+        → matches_in parts.now.counter (timer_at k parts.now) n ≡ 0 }
+{
+    for k in 0..parts.timers {
+        let timer = &parts.timer[k as usize];
+        if timer.is_enabled() && !timer.is_quiet(parts.counter, n) {
+            return false;
+        }
+    }
+    true
+}
+
+/// Whether `n` pulses bring no match of an enabled timer.
+#[inline(always)]
+pub(crate) fn is_quiet(parts: &HpetParts, n: u64) -> bool
+    requires { IsHpet parts.now }
+    ensures { result ≡ true → (k : ℕ) → k < parts.now.timers → is_enabled (timer_at k parts.now) ≡ true
+        → matches_of k parts.now n ≡ 0 }
+{
+    let _counter = parts.counter;
+    parts.config % 2 == 0 || has_no_enabled_match(parts, n)
+}
+
+/// Counts `n` pulses of which some match changes a timer or the status.
+#[inline(never)]
+fn pass_matches(parts: &mut HpetParts, n: u64)
+    requires valid { IsHpet parts.old }
+    requires fits { parts.old.counter < 2 ^ 64 }
+    ensures { parts.new ≡ hpet_pulsed_times n parts.old }
+{
+    let mut matches = [Matches::NONE; 8];
+    let _reach = pulse(parts, n, &mut matches);
+}
+
+/// Counts `n` pulses for a caller that asks for no matches: over most stretches the counter alone changes.
+#[inline(always)]
+pub(crate) fn pass(parts: &mut HpetParts, n: u64)
+    requires valid { IsHpet parts.old }
+    requires fits { parts.old.counter < 2 ^ 64 }
+    ensures { parts.new ≡ hpet_pulsed_times n parts.old }
+{
+    if parts.config % 2 == 0 {
+        return;
+    }
+    if !keeps_timers(parts, n) {
+        pass_matches(parts, n);
+        return;
+    }
+    let mut counter = MainCounter {
+        value: parts.counter,
+    };
+    counter.pulses(n);
+    parts.counter = counter.value;
 }

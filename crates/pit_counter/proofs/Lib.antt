@@ -6,5 +6,6 @@ pub mod Joins
 pub mod Reloaded
 pub mod Divided
 pub mod Later
+pub mod Planned
 mod PartRows
 mod Rows

@@ -188,7 +188,7 @@ square_stays false true false odd at_zero false c k below ez et eo ed h =
     let within : k < height c / 2 - 1 = simp eo at h in
     ap (λ (b : Bool). cond b (Load true) DownByTwo) (apart c (2 * k) 2 below et (omega arith) (omega arith))
 
-effect_in-glided : (m : Mode) (c : CounterParts) (k : ℕ) → c.ce < modulus c.bits → k < quiet_for (effect_in m c) c
+pub effect_in-glided : (m : Mode) (c : CounterParts) (k : ℕ) → c.ce < modulus c.bits → k < quiet_for (effect_in m c) c
     → effect_in m (glided (effect_in m c) k c) ≡ effect_in m c
 unfolding effect_in glided
 effect_in-glided RateGenerator c k below h = rate_stays ((c.full && not c.live) || c.trig) (c.live && c.gate) (eqb c.ce 1) c.out c k below refl h

@@ -1,6 +1,6 @@
 //! The counter, and its calls.
 
-ghost use Rattle.std.specs.Prelude.{◌≡◌, ◌↔◌, ◌≤◌, ◌<◌, IsSome, IfSome};
+ghost use Rattle.std.specs.Prelude.{◌≡◌, ◌↔◌, ℕ, ◌≤◌, ◌<◌, IsSome, IfSome};
 ghost use Rattle.clk_units.specs.Events.{IsFirst};
 ghost use Rattle.pit_counter.specs.Programming.{
   counter_at_power_on,
@@ -19,8 +19,8 @@ ghost use Rattle.pit_counter.specs.Reading.{
 ghost use Rattle.pit_counter.specs.Parts.{IsCounter};
 
 use crate::parts::CounterParts;
-use crate::rises::Rises;
-use crate::stretch::take_pulses;
+use crate::plan::{Plan, plan_of, take_and_plan, take_planned};
+use crate::rises::{NONE, Rises};
 use crate::{programming, reading, table};
 use std::marker::Model;
 
@@ -29,6 +29,8 @@ use std::marker::Model;
 #[repr(C)]
 pub struct Counter {
     parts: CounterParts,
+    /// That of these parts.
+    plan: Plan,
 }
 
 impl Model for Counter {
@@ -36,13 +38,17 @@ impl Model for Counter {
 
     ghost Value = { CounterParts };
 
-    ghost use Rattle.pit_counter.specs.Parts.{IsCounter};
+    ghost use Rattle.std.proofs.Common.{ap, sym};
+    ghost use Rattle.pit_counter.specs.declared.plan.Plan.{Plan};
+    ghost use Rattle.pit_counter.specs.private.Plan.{plan_of, IsPlanned};
 
     ghost view = { λ c. c.parts };
 
-    ghost invariant = { λ c. IsCounter c.parts };
+    ghost invariant = { λ c. IsPlanned c.parts c.plan };
 
-    ghost inverse = { λ p. record { parts = p } };
+    ghost inverse = { λ p. record { parts = p; plan = plan_of p } };
+
+    ghost inverse_ok = { λ c is. ap (λ (plan : Plan). record { parts = c.parts; plan = plan }) (sym is.planned) };
 }
 
 #[tactic(auto, using(crate::proofs::Keeps::keeps))]
@@ -52,9 +58,7 @@ impl Counter {
     pub fn power_on(gate: bool) -> Counter
         ensures { result ≡ counter_at_power_on gate }
     {
-        Counter {
-            parts: programming::programmed(0x36, gate),
-        }
+        planned(programming::programmed(0x36, gate))
     }
 
     /// All fields, as a saved state keeps them.
@@ -71,7 +75,7 @@ impl Counter {
         ensures value { IfSome result (λ c. c ≡ parts) }
     {
         match parts.first_fault() {
-            None => Some(Counter { parts }),
+            None => Some(planned(parts)),
             Some(_) => None,
         }
     }
@@ -86,6 +90,7 @@ impl Counter {
     {
         let out = self.parts.out;
         self.parts = programming::programmed(bits, self.parts.gate);
+        self.plan = plan_of(&self.parts);
         !out && self.parts.out
     }
 
@@ -94,6 +99,7 @@ impl Counter {
         ensures { self.new ≡ byte_written byte self.old }
     {
         self.parts = programming::byte_written(byte, self.parts);
+        self.plan = plan_of(&self.parts);
     }
 
     /// Sets GATE to this level; what its edges do is (own). Answers whether OUT rose.
@@ -103,6 +109,7 @@ impl Counter {
     {
         let out = self.parts.out;
         self.parts = programming::gated(level, self.parts);
+        self.plan = plan_of(&self.parts);
         !out && self.parts.out
     }
 
@@ -114,7 +121,18 @@ impl Counter {
         ensures few { result.count ≤ n }
         ensures first { IsFirst (rises_in self.old) n result.first }
     {
-        take_pulses(&mut self.parts, n)
+        if take_planned(&mut self.plan, &mut self.parts, n) {
+            return NONE;
+        }
+        take_and_plan(&mut self.plan, &mut self.parts, n)
+    }
+
+    /// So many CLK pulses, or fewer, bring no rise of OUT. More of them may be quiet too.
+    #[inline(always)]
+    pub fn quiet(&self) -> u64
+        ensures { (n : ℕ) → n ≤ result → rises_in self.now n ≡ 0 }
+    {
+        self.plan.quiet
     }
 
     /// The count as it reads now: a 16-bit number, in BCD as four digits.
@@ -170,6 +188,17 @@ impl Counter {
         ensures state { self.new ≡ after_read self.old }
         ensures byte { result ≡ byte_read (pulsed_times n self.old) }
     {
-        reading::read_later(&mut self.parts, n)
+        reading::read_later(&mut self.parts, &self.plan, n)
+    }
+}
+
+/// The counter with these fields.
+fn planned(parts: CounterParts) -> Counter
+    requires { IsCounter parts }
+    ensures { result ≡ parts }
+{
+    Counter {
+        parts,
+        plan: plan_of(&parts),
     }
 }

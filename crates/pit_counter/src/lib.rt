@@ -20,6 +20,7 @@ mod count;
 mod counter;
 mod mode;
 mod parts;
+mod plan;
 mod programming;
 mod reading;
 mod rises;

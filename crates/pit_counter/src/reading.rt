@@ -1,11 +1,12 @@
 //! Latches, and the order in which a counter's bytes are read. Intel 8254 data sheet, "Read
 //! Operations", "Counter Latch Command" and "Read-Back Command".
 
-ghost use Rattle.std.specs.Prelude.{◌≡◌, ◌<◌, ◌/◌, ◌%◌, false, if◌then◌else◌};
+ghost use Rattle.std.specs.Prelude.{◌≡◌, ◌<◌, ◌/◌, ◌%◌, false, if◌then◌else◌, IfSome};
 ghost use Rattle.pit_counter.specs.Mode.{access_of};
 ghost use Rattle.pit_counter.specs.Count.{modulus};
 ghost use Rattle.pit_counter.specs.Parts.{IsCounter};
 ghost use Rattle.pit_counter.specs.Table.{pulsed_times};
+ghost use Rattle.pit_counter.specs.private.Plan.{plan_of};
 ghost use Rattle.pit_counter.specs.Reading.{
   count_of,
   status_of,
@@ -21,6 +22,7 @@ ghost use Rattle.pit_counter.specs.Reading.{
 use crate::count::read_as;
 use crate::mode::{Access, access_of, is_bcd};
 use crate::parts::CounterParts;
+use crate::plan::{Plan, planned_count};
 use crate::stretch::{divided_count, is_dividing, take_pulses};
 
 /// The count as it reads now.
@@ -202,21 +204,39 @@ fn turn(p: &mut CounterParts) -> bool
     }
 }
 
+/// The count after `n` pulses, where it comes by a sum or a division.
+#[inline(always)]
+fn count_later(p: &CounterParts, plan: &Plan, n: u64) -> Option<u16>
+    requires below { p.now.ce < modulus p.now.bits }
+    requires planned { plan.now ≡ plan_of p.now }
+    ensures { IfSome result (λ count. count ≡ (pulsed_times n p.now).ce) }
+{
+    if n <= plan.quiet {
+        Some(planned_count(plan, p, n))
+    } else if is_dividing(p) {
+        Some(divided_count(p, n))
+    } else {
+        None
+    }
+}
+
 /// Reads a byte as after `n` more pulses, and takes none of them: no pulse changes what is latched,
 /// nor the order of the bytes.
 #[inline(always)]
-pub fn read_later(p: &mut CounterParts, n: u64) -> u8
-    requires { IsCounter p.old }
+pub fn read_later(p: &mut CounterParts, plan: &Plan, n: u64) -> u8
+    requires valid { IsCounter p.old }
+    requires planned { plan.now ≡ plan_of p.old }
     ensures state { p.new ≡ after_read p.old }
     ensures byte { result ≡ byte_read (pulsed_times n p.old) }
 {
     if p.status_latched || p.count_latched {
         return read(p);
     }
-    if !is_dividing(p) || is_bcd(p.bits) {
+    if is_bcd(p.bits) {
         return read_by_copy(p, n);
     }
-    let count = divided_count(p, n);
-    let high = turn(p);
-    byte_of(count, high)
+    match count_later(p, plan, n) {
+        Some(count) => byte_of(count, turn(p)),
+        None => read_by_copy(p, n),
+    }
 }

@@ -25,10 +25,10 @@ use crate::rises::{NONE, Rises, joined, with_pulse};
 use crate::table::{Effect, has_risen, next_effect, pulsed};
 
 /// More pulses than are ever asked for.
-const FOREVER: u64 = u64::MAX;
+pub const FOREVER: u64 = u64::MAX;
 
 /// How far the count goes down at each pulse.
-fn step_of(effect: Effect) -> u8
+pub fn step_of(effect: Effect) -> u8
     ensures value { result ≡ step_of effect }
     ensures small { result ≤ 2 }
 {
@@ -53,7 +53,7 @@ fn height(p: &CounterParts) -> u64
 }
 
 /// Whether a pulse with this effect changes nothing.
-fn is_still(effect: Effect, out: bool) -> bool
+pub fn is_still(effect: Effect, out: bool) -> bool
     ensures { result ≡ is_still effect out }
 {
     match effect {
@@ -64,7 +64,7 @@ fn is_still(effect: Effect, out: bool) -> bool
 
 /// How many pulses with this effect leave all but the count as it is, and keep the effect.
 #[tactic(auto, unfolding(crate::specs::private::Stretch::quiet_for))]
-fn quiet_for(effect: Effect, p: &CounterParts) -> u64
+pub fn quiet_for(effect: Effect, p: &CounterParts) -> u64
     ensures { result ≡ quiet_for effect p.now }
 {
     match effect {

@@ -237,6 +237,22 @@ impl Pit {
         pulse_each(&mut self.counters, n)
     }
 
+    /// Whether `n` CLK pulses bring no rise of OUT of counter 0, as far as that shows without taking them.
+    #[inline(always)]
+    pub fn is_quiet(&self, n: u64) -> bool
+        ensures { result ≡ true → rises_in (counter_of self.now 0) n ≡ 0 }
+    {
+        n <= self.counters[0].quiet()
+    }
+
+    /// Takes `n` CLK pulses in each counter, as `pulses` does, for a caller that asks for no rises.
+    #[inline(always)]
+    pub fn pass(&mut self, n: u64)
+        ensures { self.new ≡ pit_pulsed_times n self.old }
+    {
+        let _rises = self.pulses(n);
+    }
+
     /// Counter `k`.
     pub fn counter(&self, k: u8) -> Counter
         requires { k < 3 }

@@ -69,7 +69,7 @@ pub use race::{Ran, run_race};
 pub use records::{Answer, Record};
 pub use tally::Tally;
 pub use text::Text;
-pub use texts::event_lines;
+pub use texts::access_block;
 pub use writer::Writer;
 pub use written::Written;
 

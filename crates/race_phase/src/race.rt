@@ -1,7 +1,7 @@
 //! A trace of phases, run by one thread a processor.
 ghost use Rattle.std.specs.Prelude.{◌≡◌, ◌++◌, [], None, IfOk, IfSome, OnOk};
 ghost use Rattle.race_phase.specs.Phases.{trace_fault, race_text};
-ghost use Rattle.race_phase.specs.private.Feed.{PhaseHasEnded};
+ghost use Rattle.race_phase.specs.private.Feed.{PhaseHasEnded, board_or};
 
 use crate::deliveries::Deliveries;
 use crate::ends::end_phase;
@@ -52,27 +52,36 @@ pub fn run_race<'a, F: Feeding + Send + Sync, R: Threads + Wait + Sync, G: Gate 
     let Some(opening) = feed.opening(&opened) else {
         return Err(Halt::Closed);
     };
-    let Ok(mut now) = Box::new(alloc, opening.state) else {
-        return Err(Halt::NoMemory);
-    };
     let means = Means { rt, alloc, gate };
     let mut text = Text::new(alloc);
     let mut taken = Vec::new(alloc);
+    let mut left = None;
     let mut from = Spot { piece: 0, part: 0 };
     for _phase in 0..MOST_PHASES {
-        let ended = run_and_end(&means, &*now, &opening.deliveries, feed, from, &mut text)?;
+        let state = opens_with(&opening.state, &left);
+        let ended = run_and_end(&means, state, &opening.deliveries, feed, from, &mut text)?;
         join_parts(&mut taken, ended.taken)?;
-        now = ended.board;
         from = ended.next;
         if ended.end == End::Finish {
             return Ok(Ran {
-                state: now,
+                state: ended.board,
                 text,
                 trace: Written { opened, put: taken },
             });
         }
+        left = Some(ended.board);
     }
     Err(Halt::Closed)
+}
+
+/// The board with which a phase opens: the one that the phase before it left, or the first one.
+fn opens_with<'a>(first: &'a BoardState, left: &'a Option<Box<BoardState>>) -> &'a BoardState
+    ensures { result.now ≡ board_or first.now left.now }
+{
+    match left {
+        Some(board) => &**board,
+        None => first,
+    }
 }
 
 /// Puts parts behind others.

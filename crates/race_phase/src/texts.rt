@@ -9,11 +9,11 @@ use crate::deliveries::{Deliveries, edge_lines, message_lines};
 use crate::told::Told;
 use board_core::Reply;
 use clk_units::NoMemory;
-use reply_text::{board_line, clock_line, hv_line, page_line};
+use reply_text::{CountedLines, board_line, clock_line, hv_line, page_line};
 
 /// Appends the lines of the edges of an access, and of its messages. After an `Err` the text begins as it was.
 #[inline(always)]
-pub fn event_lines(
+pub(crate) fn event_lines(
     reply: &Reply,
     deliveries: &Deliveries,
     out: &mut Vec<u8>,
@@ -26,13 +26,15 @@ pub fn event_lines(
     message_lines(&reply.bursts, deliveries, out)
 }
 
-/// Appends the block of an access: its edges, its messages, and its line. After an `Err` the text begins as it was.
+/// Appends the block of an access: its edges, its messages, and its line, which `counted` prints where it is given. After an
+/// `Err` the text begins as it was.
 #[inline(always)]
 #[tactic(auto, unfolding(crate::specs::Blocks::block_of))]
-fn access_block(
+pub fn access_block(
     line: u64,
     reply: &Reply,
     deliveries: &Deliveries,
+    counted: Option<&mut CountedLines>,
     out: &mut Vec<u8>,
 ) -> Result<(), NoMemory>
     ensures ok { OnOk result
@@ -40,8 +42,10 @@ fn access_block(
     ensures err { OnErr result (StartsWith out.new.items out.old.items) }
 {
     event_lines(reply, deliveries, out)?;
-    board_line(line, reply, out)?;
-    Ok(())
+    match counted {
+        Some(lines) => lines.board_line(line, reply, out),
+        None => board_line(line, reply, out),
+    }
 }
 
 /// Appends the block of a record that was answered so; the reply of an access is this.
@@ -57,7 +61,7 @@ pub(crate) fn append_block(
         (out.new.items ≡ out.old.items ++ block_of deliveries.now line (answer_with told.now reply.now)) }
 {
     match told {
-        Told::Acted => access_block(line, reply, deliveries, out),
+        Told::Acted => access_block(line, reply, deliveries, None, out),
         Told::PageIs { reply } => page_line(line, reply, out),
         Told::ClockIs { reply } => clock_line(line, reply, out),
         Told::HvIs { reply } => hv_line(line, reply, out),

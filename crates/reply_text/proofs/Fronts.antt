@@ -1,12 +1,62 @@
 -- Lemmas on the front of a reply's line, whose numbers count up.
-use Rattle.std.proofs.Common.{◌≡◌, ◌≢◌, ℕ, ◌+◌, ◌-◌, ◌/◌, ◌%◌, ◌^◌, ◌<◌, ◌≤◌, List, [], ◌∷◌, ◌++◌, length, take, drop, get_or, set, decimal, refl, sym, ap, ◌∙◌, inl, inr, arith, eq-zero-or-pos, append_assoc, length-append, length-drop, length-take, length-take-le}
+use Rattle.std.proofs.Common.{
+  ◌≡◌,
+  ◌≢◌,
+  ℕ,
+  ◌+◌,
+  ◌-◌,
+  ◌/◌,
+  ◌%◌,
+  ◌^◌,
+  ◌<◌,
+  ◌≤◌,
+  List,
+  [],
+  ◌∷◌,
+  ◌++◌,
+  length,
+  take,
+  drop,
+  get_or,
+  set,
+  decimal,
+  refl,
+  sym,
+  ap,
+  ◌∙◌,
+  inl,
+  inr,
+  arith,
+  eq-zero-or-pos,
+  append_assoc,
+  length-append,
+  length-drop,
+  length-take-le,
+}
 use Rattle.std.proofs.Math.Seq.{take-set-lt, take-append-add}
 use Rattle.std.proofs.lemmas.Fmt.{decimal_digit, decimal_step}
-use Rattle.std.proofs.lemmas.List.{take_at, drop_at, set_at, get_or_at, get_or-take, take-set-le, take-take, take-append-drop, take-append-le, drop-append-le, drop-take, append-nil}
+use Rattle.std.proofs.lemmas.List.{
+  take_at,
+  drop_at,
+  set_at,
+  get_or_at,
+  get_or-take,
+  take-set-le,
+  take-take,
+  take-append-drop,
+  take-append-le,
+  drop-append-le,
+  drop-take,
+  append-nil,
+}
 use Rattle.board_types.specs.declared.reply.Value.{Value}
 use Rattle.reply_text.specs.Words.{spaced}
-use Rattle.reply_text.specs.Text.{value_text, value_words}
+use Rattle.pvclock_page.specs.declared.page.ClockReply.{ClockReply}
+use Rattle.pvclock_page.specs.declared.page.ClockReply.TheVariants.{Off as ClockOff, On as ClockOn}
+use Rattle.std.specs.Prelude.{codes}
+use Rattle.reply_text.specs.Text.{clock_text, value_text, value_words}
 use Rattle.reply_text.specs.private.Front.{IsFront}
+use Rattle.reply_text.specs.private.Readings.{reading_text}
 
 -- the last digit of a number, and of one more
 pub last_digit : (n : ℕ) → n < 2 ^ 64
@@ -135,6 +185,19 @@ number_counted line number start end text front room fits =
           },
     )
 
+-- each is one more by its last digit
+pub line_up : (line line' number start end : ℕ) (text new : List ℕ) → IsFront line number start end text → length text ≡ 96
+    → line' < 2 ^ 64 → line + 1 ≡ line' → get_or text 19 0 ≢ 57 → new ≡ set text 19 (get_or text 19 0 + 1)
+    → IsFront line' number start end new
+line_up line line' number start end text new front room fits next digit is =
+    rw (← next, is) ((line_counted line number start end text front room (omega arith)).1 digit (omega arith))
+
+pub number_up : (line number number' start end : ℕ) (text new : List ℕ) → IsFront line number start end text → length text ≡ 96
+    → number' < 2 ^ 64 → number + 1 ≡ number' → get_or text (end - 1) 0 ≢ 57 → new ≡ set text (end - 1) (get_or text (end - 1) 0 + 1)
+    → IsFront line number' start end new
+number_up line number number' start end text new front room fits next digit is =
+    rw (← next, is) ((number_counted line number start end text front room (omega arith)).1 digit (omega arith))
+
 -- another line in front of the number
 pub line_written : (line line' number start end r : ℕ) (text new : List ℕ) → IsFront line number start end text
     → length text ≡ 96 → length new ≡ 96 → r + length (decimal line') ≡ 20
@@ -227,20 +290,25 @@ written_after new old w r m long same after =
     ∙ ap (λ (t : List ℕ). t ++ drop r (take (r + m) new)) (take-take r (r + m) new (omega arith) ∙ same)
     ∙ ap (λ (t : List ℕ). take r old ++ t) (drop-take r m new ∙ ap (take m) after ∙ take_at w (drop (r + m) old) m long)
 
--- the digits of a number that were copied after the space
-pub number_copied : (text digits number zeros rest : List ℕ) (s : ℕ) → length text ≡ 96 → s + length number ≡ 20
-    → drop s digits ≡ number ++ zeros → take (41 - s) (take 21 text ++ (take 20 (drop s digits) ++ rest)) ≡ take 21 text ++ number
-number_copied text digits number zeros rest s room place is =
-    let long : length (take 21 text) ≡ 21 = length-take-le 21 text (omega arith) in
-    let sum : length (take 21 text) + length number ≡ 41 - s = omega arith in
-    let copied : length number ≤ length (take 20 (drop s digits)) =
-    omega (arith, length-take 20 (drop s digits), ap length is, length-append number zeros) in
-    ap (λ (n : ℕ). take n (take 21 text ++ (take 20 (drop s digits) ++ rest))) (sym sum)
-    ∙ take-append-add (take 21 text) (take 20 (drop s digits) ++ rest) (length number)
-    ∙ ap (λ (t : List ℕ). take 21 text ++ t)
-    (take-append-le (length number) (take 20 (drop s digits)) rest (omega arith)
-    ∙ take-take (length number) 20 (drop s digits) (omega arith) ∙ ap (take (length number)) is
-    ∙ take_at number zeros (length number) refl)
+-- the digits up to the middle of a buffer, which are copied with what makes them 20 bytes
+pub digits_put : (text digits rest : List ℕ) (s at : ℕ) → s ≤ 20 → length digits ≡ 40 → at ≤ length text
+    → take (at + (20 - s)) (take at text ++ (take 20 (drop s digits) ++ rest)) ≡ take at text ++ take (20 - s) (drop s digits)
+digits_put text digits rest s at few long room =
+    let count : ℕ = 20 - s in
+    let before : length (take at text) ≡ at = length-take-le at text room in
+    let sum : at + count ≡ length (take at text) + count = omega (arith, before) in
+    let copied : length (take 20 (drop s digits)) ≡ 20 = length-take-le 20 (drop s digits) (omega (arith, length-drop s digits)) in
+    ap (λ (n : ℕ). take n (take at text ++ (take 20 (drop s digits) ++ rest))) sum
+    ∙ take-append-add (take at text) (take 20 (drop s digits) ++ rest) count
+    ∙ ap (λ (t : List ℕ). take at text ++ t)
+    (take-append-le count (take 20 (drop s digits)) rest (omega (arith, copied)) ∙ take-take count 20 (drop s digits) (omega arith))
+
+-- the number that was written in front of the middle
+pub digits_before : (number digits rest : List ℕ) (s : ℕ) → drop s digits ≡ number ++ rest → s + length number ≡ 20
+    → take (20 - s) (drop s digits) ≡ number
+digits_before number digits rest s is place =
+    let count : length number ≡ 20 - s = omega arith in
+    ap (take (20 - s)) is ∙ take_at number rest (20 - s) count
 
 -- words before a place and words after it make a line
 pub joined_at : (text new w words : List ℕ) (start place end : ℕ) → drop start (take place text) ≡ w
@@ -298,3 +366,11 @@ chain p w v x y e f = f ∙ ap (λ (t : List ℕ). t ++ v) e ∙ append_assoc p 
 pub length_between : (text : List ℕ) (start end : ℕ) → end ≤ length text → length (take (end - start) (drop start text)) ≡ end - start
 length_between text start end within =
     length-take-le (end - start) (drop start text) (omega (arith, length-drop start text))
+
+-- the words of a clock reading's line
+pub clock_is : (line : ℕ) (reply : ClockReply)
+    → decimal line ++ (codes " clock " ++ (reading_text reply ++ 10 ∷ [])) ≡ clock_text line reply
+unfolding clock_text
+clock_is line ClockOff = refl
+clock_is line (ClockOn reading clock) =
+    ap (λ (t : List ℕ). decimal line ++ (codes " clock " ++ t)) (append_assoc (decimal reading) (32 ∷ decimal clock) (10 ∷ []))

@@ -2,33 +2,30 @@
 ghost use Rattle.std.specs.Prelude.{
   ◌≡◌,
   ◌+◌,
-  ◌*◌,
   ◌<◌,
   ◌≤◌,
   ◌++◌,
+  ◌≢◌,
+  slice_index,
+  set,
   length,
   take,
-  drop,
-  decimal,
   OnOk,
   OnErr,
   MatchOption,
   vec_len,
   vec_capacity,
 };
-ghost use Rattle.std.specs.Bool.{OnTrue};
+ghost use Rattle.std.specs.Bool.{OnTrue, OnFalse};
 ghost use Rattle.reply_text.specs.Words.{spaced};
 ghost use Rattle.reply_text.specs.Text.{value_text, value_words};
 
-use crate::forward::{ROOM, append_line, put_byte, put_hex};
+use crate::forward::{DIGITS, ROOM, append_line, put_byte, put_hex, put_number};
 use crate::replies::value_line;
 use board_types::{Reply, Value};
 use clk_units::NoMemory;
 use itoa::write_digits;
 use std::marker::Model;
-
-/// The most digits of a number; those of a record's line end at this place.
-const DIGITS: usize = 20;
 
 /// The beginning of the last reply's line, which is kept for the next: the line of the record and the number of the
 /// access. Mostly each of them is one more, and one byte differs.
@@ -36,7 +33,7 @@ const DIGITS: usize = 20;
 pub struct CountedLines {
     line: u64,
     number: u64,
-    /// The digits of the line, which end at place 20, a space, and the digits of the number lie from `start` to `end`.
+    /// The digits of the line, which end at place `DIGITS`, a space, and the digits of the number lie from `start` to `end`.
     text: [u8; ROOM],
     start: usize,
     end: usize,
@@ -54,8 +51,10 @@ impl Model for CountedLines {
 }
 
 impl CountedLines {
-    /// Before the first line.
-    pub fn new() -> CountedLines {
+    /// Before the first line: that of record 0 and access 0.
+    pub fn new() -> CountedLines
+        ensures { result ≡ (0, 0) }
+    {
         let mut text = [b'0'; ROOM];
         text[DIGITS] = b' ';
         CountedLines {
@@ -68,7 +67,6 @@ impl CountedLines {
     }
 
     /// The line of a board's reply, as `board_line` has it.
-    #[tactic(auto, unfolding(crate::specs::Text::value_text))]
     pub fn board_line(
         &mut self,
         line: u64,
@@ -80,73 +78,90 @@ impl CountedLines {
         ensures full { OnErr result (vec_capacity out.old
             < vec_len out.old + length (value_text line reply.now.number reply.now.value)) }
     {
-        self.to_line(line);
-        self.to_number(reply.number);
-        let Some(end) = put_value(&reply.value, &mut self.text, self.end) else {
-            return value_line(line, reply.number, &reply.value, out);
-        };
-        append_line(&self.text, self.start, end, out)
+        if self.counts_to(line, reply.number) {
+            return self.append_value(&reply.value, out);
+        }
+        self.line_apart(line, reply, out)
+    }
+
+    /// The line of a reply whose numbers are written anew. It is apart from the usual one, which makes no call.
+    #[inline(never)]
+    fn line_apart(&mut self, line: u64, reply: &Reply, out: &mut Vec<u8>) -> Result<(), NoMemory>
+        ensures ok { OnOk result (out.new.items ≡ out.old.items ++ value_text line reply.now.number reply.now.value) }
+        ensures err { OnErr result (out.new.items ≡ out.old.items) }
+        ensures full { OnErr result (vec_capacity out.old
+            < vec_len out.old + length (value_text line reply.now.number reply.now.value)) }
+    {
+        self.write_front(line, reply.number);
+        self.append_value(&reply.value, out)
+    }
+
+    /// Whether each number is one more than the last and changes only its last digit; then they are these now.
+    #[inline(always)]
+    fn counts_to(&mut self, line: u64, number: u64) -> bool
+        ensures { OnTrue result (self.new ≡ (line, number)) }
+    {
+        if !counts_up(self.line, line, &mut self.text, DIGITS - 1) {
+            return false;
+        }
+        self.line = line;
+        if !counts_up(self.number, number, &mut self.text, self.end - 1) {
+            return false;
+        }
+        self.number = number;
+        true
+    }
+
+    /// The numbers are these now, whatever they were.
+    fn write_front(&mut self, line: u64, number: u64)
+        ensures { self.new ≡ (line, number) }
+    {
+        self.write_line(line);
+        self.end = put_number(number, &mut self.text, DIGITS + 1);
+        self.number = number;
     }
 
     /// The line of the record is this now.
-    #[inline(always)]
-    fn to_line(&mut self, line: u64)
+    fn write_line(&mut self, line: u64)
         ensures { self.new ≡ (line, self.old.1) }
     {
-        if is_next(self.line, line) && self.text[DIGITS - 1] != b'9' {
-            self.text[DIGITS - 1] += 1;
-            self.line = line;
+        if self.line == line {
             return;
         }
-        self.start = write_line(line, &mut self.text);
+        self.start = write_digits(line, &mut self.text, DIGITS);
         self.line = line;
     }
 
-    /// The number of the access is this now.
+    /// Appends the line of the numbers and a value.
     #[inline(always)]
-    fn to_number(&mut self, number: u64)
-        ensures { self.new ≡ (self.old.0, number) }
+    #[tactic(auto, unfolding(crate::specs::Text::value_text))]
+    fn append_value(&mut self, value: &Value, out: &mut Vec<u8>) -> Result<(), NoMemory>
+        ensures ok { OnOk result (out.new.items ≡ out.old.items ++ value_text self.old.0 self.old.1 value.now) }
+        ensures err { OnErr result (out.new.items ≡ out.old.items) }
+        ensures full { OnErr result (vec_capacity out.old
+            < vec_len out.old + length (value_text self.old.0 self.old.1 value.now)) }
     {
-        if is_next(self.number, number) && self.text[self.end - 1] != b'9' {
-            self.text[self.end - 1] += 1;
-            self.number = number;
-            return;
-        }
-        self.end = write_number(number, &mut self.text);
-        self.number = number;
+        let Some(end) = put_value(value, &mut self.text, self.end) else {
+            return value_line(self.line, self.number, value, out);
+        };
+        append_line(&self.text, self.start, end, out)
     }
 }
 
-/// Whether a number is one more than another.
+/// Whether a number is one more than another whose last digit, at a place of a text, isn't a 9; then it is one more, too.
 #[inline(always)]
-fn is_next(before: u64, n: u64) -> bool
-    ensures { OnTrue result (before + 1 ≡ n) }
+fn counts_up(before: u64, n: u64, text: &mut [u8; ROOM], last: usize) -> bool
+    requires { last < ROOM }
+    ensures counts { OnTrue result (before + 1 ≡ n) }
+    ensures digit { OnTrue result (slice_index text.old last ≢ 57) }
+    ensures up { OnTrue result (text.new ≡ set text.old last (slice_index text.old last + 1)) }
+    ensures still { OnFalse result (text.new ≡ text.old) }
 {
-    before < u64::MAX && before + 1 == n
-}
-
-/// Writes all digits of a record's line, and returns where they start.
-// It is apart, since nine lines of ten don't need it.
-#[inline(never)]
-fn write_line(line: u64, text: &mut [u8; ROOM]) -> usize
-    ensures start { result + length (decimal line) ≡ DIGITS }
-    ensures written { drop result text.new ≡ decimal line ++ drop DIGITS text.old }
-    ensures before { take result text.new ≡ take result text.old }
-{
-    write_digits(line, text, DIGITS)
-}
-
-/// Writes all digits of an access's number after the space, and returns where they end.
-#[inline(never)]
-fn write_number(number: u64, text: &mut [u8; ROOM]) -> usize
-    ensures end { result ≡ DIGITS + 1 + length (decimal number) }
-    ensures short { result ≤ 2 * DIGITS + 1 }
-    ensures written { take result text.new ≡ take (DIGITS + 1) text.old ++ decimal number }
-{
-    let mut digits = [0; 2 * DIGITS];
-    let start = write_digits(number, &mut digits, DIGITS);
-    text[DIGITS + 1..2 * DIGITS + 1].copy_from_slice(&digits[start..start + DIGITS]);
-    2 * DIGITS + 1 - start
+    if n <= before || n - before != 1 || text[last] >= b'9' {
+        return false;
+    }
+    text[last] += 1;
+    true
 }
 
 /// Puts the value of most replies, and the line's end, after the front of a line, and returns where the line ends.

@@ -2,7 +2,6 @@
 ghost use Rattle.std.specs.Prelude.{
   ◌≡◌,
   ◌+◌,
-  ◌-◌,
   ◌*◌,
   ◌/◌,
   ◌%◌,
@@ -25,9 +24,6 @@ static PAIRS: [u8; 512] = *b"000102030405060708090a0b0c0d0e0f1011121314151617181
 a0a1a2a3a4a5a6a7a8a9aaabacadaeafb0b1b2b3b4b5b6b7b8b9babbbcbdbebf\
 c0c1c2c3c4c5c6c7c8c9cacbcccdcecfd0d1d2d3d4d5d6d7d8d9dadbdcdddedf\
 e0e1e2e3e4e5e6e7e8e9eaebecedeeeff0f1f2f3f4f5f6f7f8f9fafbfcfdfeff";
-
-/// How many bytes `write_again` moves: as many as the longest number has, and a space, in whole words of 8 bytes.
-const MOVED: usize = 24;
 
 /// Writes the two hexadecimal digits of a byte so that they end at `end`, and returns where they start.
 #[inline(always)]
@@ -89,22 +85,4 @@ pub(crate) fn write_byte(byte: u8, buf: &mut [u8], end: usize) -> usize
     let start = end - 1;
     buf[start] = byte;
     start
-}
-
-/// Writes the bytes from `start` to `end` once more, so that they end at `start`, and returns where they start. What is
-/// before them is lost.
-#[inline(always)]
-pub(crate) fn write_again(buf: &mut [u8], start: usize, end: usize) -> usize
-    requires room { 24 ≤ start }
-    requires order { start ≤ end }
-    requires few { end ≤ start + 24 }
-    requires within { end ≤ length buf.old }
-    ensures start { result + (end - start) ≡ start }
-    ensures written { drop result buf.new
-        ≡ take (end - start) (drop start buf.old) ++ drop start buf.old }
-{
-    let mut moved = [0; MOVED];
-    moved.copy_from_slice(&buf[end - MOVED..end]);
-    buf[start - MOVED..start].copy_from_slice(&moved);
-    start - (end - start)
 }

@@ -22,9 +22,13 @@ ghost use Rattle.reply_text.specs.Words.{hex_text};
 
 use crate::digits::write_hex;
 use clk_units::NoMemory;
+use itoa::write_digits;
 
 /// The bytes of a line, and as many after it as are copied at once.
 pub(crate) const ROOM: usize = 96;
+
+/// The most digits of a number.
+pub(crate) const DIGITS: usize = 20;
 
 /// Puts a word at a place, and returns where it ends.
 #[inline(always)]
@@ -56,6 +60,46 @@ pub(crate) fn put_small(n: u8, text: &mut [u8; ROOM], at: usize) -> usize
     let at = put_digit(n / 100, text, at);
     let at = put_digit(n / 10 % 10, text, at);
     put_digit(n % 10, text, at)
+}
+
+/// Puts a number at a place, and returns where it ends.
+#[inline(always)]
+pub(crate) fn put_number(n: u64, text: &mut [u8; ROOM], at: usize) -> usize
+    requires { at + DIGITS ≤ ROOM }
+    ensures end { result ≡ at + length (decimal n) }
+    ensures short { result ≤ at + DIGITS }
+    ensures written { take result text.new ≡ take at text.old ++ decimal n }
+{
+    let mut digits = [0; 2 * DIGITS];
+    let start = write_digits(n, &mut digits, DIGITS);
+    put_digits(&digits, start, text, at)
+}
+
+/// Puts a number at a place, and once more after a space, and returns where that ends.
+#[inline(always)]
+pub(crate) fn put_number_twice(n: u64, text: &mut [u8; ROOM], at: usize) -> usize
+    requires { at + 2 * DIGITS + 1 ≤ ROOM }
+    ensures short { (at ≤ result) × (result ≤ at + 2 * DIGITS + 1) }
+    ensures written { take result text.new ≡ take at text.old ++ (decimal n ++ 32 ∷ decimal n) }
+{
+    let mut digits = [0; 2 * DIGITS];
+    let start = write_digits(n, &mut digits, DIGITS);
+    let at = put_digits(&digits, start, text, at);
+    let at = put_byte(b' ', text, at);
+    put_digits(&digits, start, text, at)
+}
+
+/// Puts the digits from a place of a buffer up to its middle at a place, and returns where they end. As many as a number
+/// may have are copied, so that the compiler knows how many.
+#[inline(always)]
+fn put_digits(digits: &[u8; 2 * DIGITS], start: usize, text: &mut [u8; ROOM], at: usize) -> usize
+    requires few { start ≤ DIGITS }
+    requires room { at + DIGITS ≤ ROOM }
+    ensures end { result ≡ at + (DIGITS - start) }
+    ensures written { take result text.new ≡ take at text.old ++ take (DIGITS - start) (drop start digits.now) }
+{
+    text[at..at + DIGITS].copy_from_slice(&digits[start..start + DIGITS]);
+    at + (DIGITS - start)
 }
 
 /// Puts a digit at a place, and returns where it ends.
@@ -108,15 +152,15 @@ pub(crate) fn append_line(
     ensures full { OnErr result (vec_capacity out.old < vec_len out.old + (end - start)) }
 {
     let len = end - start;
-    let room = out.capacity() - out.len();
-    if len <= 32 && 32 <= room {
-        return append_front(&text[start..start + 32], len, out);
+    if 64 <= out.capacity() - out.len() {
+        if len <= 32 {
+            return append_front(&text[start..start + 32], len, out);
+        }
+        if len <= 64 {
+            return append_front(&text[start..start + 64], len, out);
+        }
     }
-    if len <= 64 && 64 <= room {
-        return append_front(&text[start..start + 64], len, out);
-    }
-    out.extend_from_slice(&text[start..end])
-        .map_err(|_| NoMemory)
+    append_apart(&text[start..end], out)
 }
 
 /// Appends the first bytes of some for which there is room.
@@ -131,4 +175,14 @@ fn append_front(bytes: &[u8], len: usize, out: &mut Vec<u8>) -> Result<(), NoMem
     out.extend_from_slice(bytes).map_err(|_| NoMemory)?;
     out.truncate(end);
     Ok(())
+}
+
+/// Appends bytes of any number. It is apart from where it is called, so that a caller keeps no registers for it.
+#[inline(never)]
+fn append_apart(bytes: &[u8], out: &mut Vec<u8>) -> Result<(), NoMemory>
+    ensures ok { OnOk result (out.new.items ≡ out.old.items ++ bytes.now) }
+    ensures err { OnErr result (out.new.items ≡ out.old.items) }
+    ensures full { OnErr result (vec_capacity out.old < vec_len out.old + length bytes.now) }
+{
+    out.extend_from_slice(bytes).map_err(|_| NoMemory)
 }

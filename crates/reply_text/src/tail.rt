@@ -19,7 +19,7 @@ ghost use Rattle.std.specs.Fmt.{signed_decimal};
 ghost use Rattle.reply_text.specs.Words.{hex_text};
 ghost use Rattle.reply_text.specs.declared.tail.TheConstants.{LONGEST};
 
-use crate::digits::{write_again, write_byte, write_hex, write_text};
+use crate::digits::{write_byte, write_hex, write_text};
 use clk_units::NoMemory;
 use itoa::{Buffer, write_digits};
 use std::marker::Model;
@@ -127,18 +127,6 @@ impl Tail {
     {
         self.digits(n);
         self.byte(b' ');
-    }
-
-    /// A number in front, twice, each after a space.
-    #[inline(always)]
-    pub(crate) fn number_twice(&mut self, n: u64)
-        requires { length self.old + 45 < LONGEST }
-        ensures value { self.new ≡ 32 ∷ decimal n ++ 32 ∷ decimal n ++ self.old }
-        ensures len { length self.new ≤ length self.old + 42 }
-    {
-        let end = self.start;
-        self.number(n);
-        self.start = write_again(&mut self.bytes, self.start, end);
     }
 
     /// A number of up to 128 bits in front, after a space.

@@ -1,5 +1,6 @@
 pub mod Pulse
 pub mod Times
 pub mod Recurs
+pub mod Quiet
 pub mod Writes
 mod Rows

@@ -1,6 +1,6 @@
 //! The divider as a device: pulses go in, events come out.
 
-ghost use Rattle.std.specs.Prelude.{◌≡◌, ℕ, ◌<◌, ◌≤◌, ◌↔◌, false, IsSome, IfSome};
+ghost use Rattle.std.specs.Prelude.{◌≡◌, ℕ, ◌+◌, ◌<◌, ◌≤◌, ◌↔◌, true, false, IsSome, IfSome};
 ghost use Rattle.clk_units.specs.Events.{IsFirst};
 ghost use Rattle.rtc_cycle.specs.Divider.{with_dv, with_rate, with_set, uip_of, pulsed_times};
 ghost use Rattle.rtc_cycle.specs.Divider.{ticks_in, updates_in, frequency, RunsCycles};
@@ -136,5 +136,41 @@ impl Divider {
             updates: updates.count,
             first_update: updates.first,
         }
+    }
+    /// Whether the divider is held: no pulse moves it or brings an event.
+    #[inline(always)]
+    pub fn is_held(&self) -> bool
+        ensures state { result ≡ true → (n : ℕ) → pulsed_times n self.now ≡ self.now }
+        ensures ticks { result ≡ true → (n : ℕ) → ticks_in self.now n ≡ 0 }
+        ensures updates { result ≡ true → (n : ℕ) → updates_in self.now n ≡ 0 }
+    {
+        self.parts.dv != RUNNING
+    }
+
+    /// Whether `n` pulses bring no periodic event, as far as that shows at once: where the divider runs and `n` is below a
+    /// second's pulses the answer is exact, but that at rate 0 it may be no.
+    #[inline(always)]
+    pub fn has_no_tick(&self, n: u64) -> bool
+        ensures { result ≡ true → ticks_in self.now n ≡ 0 }
+    {
+        stretch::has_no_tick(self.parts, n)
+    }
+
+    /// Whether `n` pulses end no update cycle, as far as that shows without DV and SET.
+    #[inline(always)]
+    pub fn has_no_update(&self, n: u64) -> bool
+        ensures { result ≡ true → updates_in self.now n ≡ 0 }
+    {
+        stretch::has_no_update(self.parts, n)
+    }
+
+    /// Whether over `n` pulses the count alone moves: the divider runs, no update cycle is in progress, and no second begins.
+    #[inline(always)]
+    pub fn only_counts(&self, n: u64) -> bool
+        ensures place { result ≡ true → self.now.d + n < 32768 }
+        ensures state { result ≡ true → pulsed_times n self.now ≡ record self.now { d = self.now.d + n } }
+        ensures updates { result ≡ true → updates_in self.now n ≡ 0 }
+    {
+        stretch::only_counts(self.parts, n)
     }
 }

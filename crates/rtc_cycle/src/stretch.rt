@@ -1,6 +1,6 @@
 //! Many pulses at once: the divider after them, and the events that they bring.
 
-ghost use Rattle.std.specs.Prelude.{◌≡◌, ◌≤◌, ◌<◌, ◌+◌, ◌%◌, ◌↔◌, IsTrue, false};
+ghost use Rattle.std.specs.Prelude.{◌≡◌, ◌≤◌, ◌<◌, ◌+◌, ◌%◌, ◌^◌, ◌↔◌, IsTrue, true, false};
 ghost use Rattle.clk_units.specs.Events.{IsFirst};
 ghost use Rattle.rtc_cycle.specs.private.Stretch.{pulses_to_end, stretched};
 ghost use Rattle.rtc_cycle.specs.Divider.{period, ticks_in, updates_in};
@@ -24,6 +24,7 @@ fn period_of(rs: u8) -> u16
 }
 
 /// The pulses up to the end of the cycle in progress, or else of the next second's cycle.
+#[inline(always)]
 fn pulses_to_end(p: DividerParts) -> u16
     requires { IsDivider p }
     ensures value { result ≡ pulses_to_end p }
@@ -93,4 +94,62 @@ pub(crate) fn after_pulses(p: DividerParts, n: u64) -> DividerParts
         cycle: !p.set && (d < CYCLE_END && (p.cycle || n >= (PULSES - p.d) as u64)),
         ..p
     }
+}
+
+/// How many of the divider's low bits are those of a period; at rate 0 all.
+#[inline(always)]
+fn period_bits(rs: u8) -> u32
+    requires rate { rs ≤ 15 }
+    ensures value { 0 < rs → 2 ^ result ≡ period rs }
+    ensures few { result ≤ 15 }
+{
+    match rs {
+        0 => 15,
+        1 => 7,
+        2 => 8,
+        3 => 2,
+        4 => 3,
+        5 => 4,
+        6 => 5,
+        7 => 6,
+        8 => 7,
+        9 => 8,
+        10 => 9,
+        11 => 10,
+        12 => 11,
+        13 => 12,
+        14 => 13,
+        _ => 14,
+    }
+}
+
+/// Whether `n` pulses, if the divider runs, pass no multiple of the period.
+// Where it is held there is no periodic event anyhow.
+#[inline(always)]
+pub(crate) fn has_no_tick(p: DividerParts, n: u64) -> bool
+    requires { IsDivider p }
+    ensures { result ≡ true → ticks_in p n ≡ 0 }
+{
+    let bits = period_bits(p.rs);
+    n <= 0xffff && (p.d as u64 + n) >> bits == p.d as u64 >> bits
+}
+
+/// Whether `n` pulses, if update cycles end, are less than those up to the end of one.
+#[inline(always)]
+pub(crate) fn has_no_update(p: DividerParts, n: u64) -> bool
+    requires { IsDivider p }
+    ensures { result ≡ true → updates_in p n ≡ 0 }
+{
+    n < pulses_to_end(p) as u64
+}
+
+/// Whether a divider that runs, with no cycle in progress, stays within the second over `n` pulses.
+#[inline(always)]
+pub(crate) fn only_counts(p: DividerParts, n: u64) -> bool
+    requires { IsDivider p }
+    ensures place { result ≡ true → p.d + n < 32768 }
+    ensures state { result ≡ true → stretched n p ≡ record p { d = p.d + n } }
+    ensures updates { result ≡ true → updates_in p n ≡ 0 }
+{
+    p.dv == RUNNING && !p.cycle && n < (PULSES - p.d) as u64
 }

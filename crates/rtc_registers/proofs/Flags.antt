@@ -1,11 +1,11 @@
 -- Lemmas on register C: a write of its flags keeps the rest of the clock, and setting PF goes past pulses.
 use Rattle.std.proofs.Common.{◌≡◌, ℕ, ◌≤◌, ◌<◌, ◌+◌, Bool, true, false, ◌||◌, cond, eqb, List}
-use Rattle.std.proofs.Common.{length, set, refl, sym, ap, subst, ◌∙◌, inl, inr, arith}
-use Rattle.std.proofs.lemmas.Bool.{cases_Bool}
+use Rattle.std.proofs.Common.{length, set, refl, sym, ap, subst, ◌∙◌, ◌⊎◌, inl, inr, arith}
+use Rattle.std.proofs.lemmas.Bool.{cases_Bool, cases_lt}
 use Rattle.std.proofs.lemmas.List.{set-get_or}
 use Rattle.rtc_calendar.specs.declared.TimeBytes.{TimeBytes}
 use Rattle.rtc_cycle.specs.declared.parts.DividerParts.{DividerParts}
-use Rattle.rtc_cycle.specs.Divider.{pulsed, ticks_next, updates_next}
+use Rattle.rtc_cycle.specs.Divider.{pulsed, pulsed_times, ticks_next, updates_next, ticks_in, updates_in}
 use Rattle.rtc_cycle.specs.Parts.{IsDivider}
 use Rattle.rtc_registers.specs.declared.parts.RtcParts.{RtcParts}
 use Rattle.clk_units.specs.Bits.{bit}
@@ -13,10 +13,10 @@ use Rattle.rtc_registers.specs.Registers.{register_b, register_c, flags_byte, pf
 use Rattle.rtc_registers.specs.Registers.{divider_of, form_of, time_of, alarm_of}
 use Rattle.rtc_registers.specs.Access.{after_rtc_read, flagged}
 use Rattle.rtc_registers.specs.Parts.{IsRtc}
-use Rattle.rtc_registers.specs.Pulses.{moved, time_next, flags_next, alarms_next, rtc_pulsed}
+use Rattle.rtc_registers.specs.Pulses.{moved, time_next, flags_next, alarms_next, rtc_pulsed, rtc_pulsed_times}
 use Rattle.rtc_registers.proofs.Bytes.{Moved, moved-bytes, Flagged, flagged-bytes, flags_byte-read, bit-pf}
 use Rattle.rtc_registers.proofs.Bytes.{bit-af, bit-uf}
-use Rattle.rtc_registers.proofs.Times.{time_next-by, alarms_next-by, flags_next-by}
+use Rattle.rtc_registers.proofs.Times.{time_next-by, alarms_next-by, flags_next-by, rtc_pulsed_times-no_event, rtc_pulsed_times-ticked}
 
 -- register C is replaced
 abbrev pub with_flags : ℕ → RtcParts → RtcParts
@@ -133,6 +133,17 @@ flagged-still r valid up =
     let same : flags_byte true (af_of r) (uf_of r) ≡ register_c r = ap (λ (b : Bool). flags_byte b (af_of r) (uf_of r)) (sym up) ∙ sym valid.register_c in
     ap (λ (bs : List ℕ). let p : RtcParts = record { index = r.index; bytes = bs; d = r.d; cycle = r.cycle } in p)
     (ap (set r.bytes 12) same ∙ set-get_or r.bytes 12 0)
+
+-- without an update, and with PF up or no tick, the divider alone moves
+pub rtc_pulsed_times-counted : (n : ℕ) (r : RtcParts) → IsRtc r → (pf_of r ≡ true) ⊎ (ticks_in (divider_of r) n ≡ 0) → updates_in (divider_of r) n ≡ 0
+    → pulsed_times n (divider_of r) ≡ record (divider_of r) { d = r.d + n } → record r { d = r.d + n } ≡ rtc_pulsed_times n r
+rtc_pulsed_times-counted n r valid left no_update counted = elim (cases_lt 0 (ticks_in (divider_of r) n)) [
+  | inl ticks ↦
+      let up : pf_of r ≡ true = elim left [ inl up ↦ up | inr none ↦ absurd (omega (arith, ticks, none)) ] in
+      ap (λ (p : RtcParts). let q : RtcParts = record { index = p.index; bytes = p.bytes; d = r.d + n; cycle = r.cycle } in q) (sym (flagged-still r valid up))
+      ∙ rtc_pulsed_times-ticked n r valid (record (divider_of r) { d = r.d + n }) (sym counted) ticks no_update
+  | inr none ↦ rtc_pulsed_times-no_event n r valid (record (divider_of r) { d = r.d + n }) (sym counted) (omega (arith, none)) no_update
+]
 
 -- a read elsewhere than at register C changes nothing
 pub after_rtc_read-other : (r : RtcParts) → eqb r.index 12 ≡ false → after_rtc_read r ≡ r

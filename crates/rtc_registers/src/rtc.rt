@@ -117,6 +117,7 @@ impl Rtc {
     }
 
     /// Lets `n` pulses of the crystal pass, which set flags and change the time bytes, and returns their events.
+    #[inline(always)]
     pub fn pulses(&mut self, n: u64) -> RtcEvents
         ensures state { self.new ≡ rtc_pulsed_times n self.old }
         ensures ticks { result.cycle.ticks ≡ ticks_in (divider_of self.old) n }
@@ -129,16 +130,25 @@ impl Rtc {
         // while SET is 1 the time stays
         ensures still { set_of self.old ≡ true → time_of self.new ≡ time_of self.old }
     {
-        stretch::pass(&mut self.parts, n)
+        stretch::pulses(&mut self.parts, n)
     }
 
-    /// Lets `n` pulses of the crystal pass, as `pulses` does, for a caller that asks for no events: it takes about half
-    /// as long.
-    #[inline(never)]
+    /// Lets `n` pulses of the crystal pass, as `pulses` does, for a caller that asks for no events: over most stretches it
+    /// takes a few instructions.
+    #[inline(always)]
     pub fn pass(&mut self, n: u64)
         ensures { self.new ≡ rtc_pulsed_times n self.old }
     {
-        let _events = stretch::pass(&mut self.parts, n);
+        stretch::pass(&mut self.parts, n);
+    }
+
+    /// Whether `n` pulses of the crystal bring no periodic event and no update, as far as that shows without taking them.
+    #[inline(always)]
+    pub fn is_quiet(&self, n: u64) -> bool
+        ensures ticks { result ≡ true → ticks_in (divider_of self.now) n ≡ 0 }
+        ensures updates { result ≡ true → updates_in (divider_of self.now) n ≡ 0 }
+    {
+        stretch::is_quiet(&self.parts, n)
     }
 
     /// IRQF of register C, which is the level of the interrupt line: a flag is up whose interrupt register B

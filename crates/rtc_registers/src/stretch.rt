@@ -1,6 +1,6 @@
 //! Many pulses at once: the divider after them, and what their events change.
 
-ghost use Rattle.std.specs.Prelude.{◌≡◌, ℕ, ◌+◌, ◌-◌, ◌*◌, ◌^◌, ◌<◌, ◌≤◌, ◌||◌, Some};
+ghost use Rattle.std.specs.Prelude.{◌≡◌, ℕ, ◌+◌, ◌-◌, ◌*◌, ◌^◌, ◌<◌, ◌≤◌, ◌||◌, ◌⊎◌, Some, true};
 ghost use Rattle.std.specs.Option.{is_some};
 ghost use Rattle.clk_units.specs.Events.{IsFirst};
 ghost use Rattle.rtc_calendar.specs.Updates.{updated_times};
@@ -9,7 +9,7 @@ ghost use Rattle.rtc_cycle.specs.Divider.{ticks_in, updates_in};
 ghost use Rattle.rtc_registers.specs.Access.{flagged};
 ghost use Rattle.rtc_registers.specs.Parts.{IsRtc};
 ghost use Rattle.rtc_registers.specs.Pulses.{moved, rtc_pulsed_times, alarms_in};
-ghost use Rattle.rtc_registers.specs.Registers.{flags_byte, divider_of};
+ghost use Rattle.rtc_registers.specs.Registers.{flags_byte, divider_of, pf_of};
 ghost use Rattle.rtc_registers.specs.Registers.{form_of, time_of, alarm_of};
 ghost use Rattle.rtc_registers.specs.private.Stretch.{second_apart, flags_left};
 
@@ -18,7 +18,16 @@ use crate::parts::RtcParts;
 use crate::registers::{self, ALARM, PERIODIC, REGISTER_C, UPDATE_ENDED};
 use crate::{RTC_HZ, access};
 use rtc_calendar::{TimeBytes, let_pass};
-use rtc_cycle::{CycleEvents, DividerParts};
+use rtc_cycle::{CycleEvents, Divider, DividerParts};
+
+/// The divider counts on within its second, and nothing else changes.
+#[inline(always)]
+fn count_on(r: &mut RtcParts, n: u64)
+    requires { r.old.d + n < 32768 }
+    ensures { r.new ≡ record r.old { d = r.old.d + n } }
+{
+    r.d += n as u16;
+}
 
 /// The divider moves on, and nothing else changes.
 fn move_divider(r: &mut RtcParts, divider: DividerParts)
@@ -93,7 +102,7 @@ fn take_ticks(r: &mut RtcParts, divider: DividerParts)
 /// Lets `n` pulses pass. Where no event falls the divider alone moves, and where no update does it and PF.
 // Inlined, it leaves out what its caller doesn't ask of the events.
 #[inline(always)]
-pub(crate) fn pass(r: &mut RtcParts, n: u64) -> RtcEvents
+fn take_pulses(r: &mut RtcParts, n: u64) -> RtcEvents
     requires { IsRtc r.old }
     ensures state { r.new ≡ rtc_pulsed_times n r.old }
     ensures ticks { result.cycle.ticks ≡ ticks_in (divider_of r.old) n }
@@ -125,4 +134,91 @@ pub(crate) fn pass(r: &mut RtcParts, n: u64) -> RtcEvents
         cycle,
         first_alarm: None,
     }
+}
+
+/// Whether `n` pulses bring no periodic event and no update, as far as that shows at once.
+#[inline(always)]
+pub(crate) fn is_quiet(r: &RtcParts, n: u64) -> bool
+    requires { IsRtc r.now }
+    ensures ticks { result ≡ true → ticks_in (divider_of r.now) n ≡ 0 }
+    ensures updates { result ≡ true → updates_in (divider_of r.now) n ≡ 0 }
+{
+    let divider = registers::divider(r);
+    divider.is_held() || (divider.has_no_update(n) && divider.has_no_tick(n))
+}
+
+/// Lets `n` pulses pass, apart from the calls that find most stretches quiet.
+#[inline(never)]
+fn pulses_with_events(r: &mut RtcParts, n: u64) -> RtcEvents
+    requires { IsRtc r.old }
+    ensures state { r.new ≡ rtc_pulsed_times n r.old }
+    ensures ticks { result.cycle.ticks ≡ ticks_in (divider_of r.old) n }
+    ensures few_ticks { result.cycle.ticks ≤ n }
+    ensures first_tick { IsFirst (ticks_in (divider_of r.old)) n result.cycle.first_tick }
+    ensures updates { result.cycle.updates ≡ updates_in (divider_of r.old) n }
+    ensures few_updates { result.cycle.updates ≤ n }
+    ensures first_update { IsFirst (updates_in (divider_of r.old)) n result.cycle.first_update }
+    ensures first_alarm { IsFirst (alarms_in r.old) n result.first_alarm }
+{
+    take_pulses(r, n)
+}
+
+/// Lets `n` pulses pass, and returns their events. Where none falls the divider counts on.
+#[inline(always)]
+pub(crate) fn pulses(r: &mut RtcParts, n: u64) -> RtcEvents
+    requires { IsRtc r.old }
+    ensures state { r.new ≡ rtc_pulsed_times n r.old }
+    ensures ticks { result.cycle.ticks ≡ ticks_in (divider_of r.old) n }
+    ensures few_ticks { result.cycle.ticks ≤ n }
+    ensures first_tick { IsFirst (ticks_in (divider_of r.old)) n result.cycle.first_tick }
+    ensures updates { result.cycle.updates ≡ updates_in (divider_of r.old) n }
+    ensures few_updates { result.cycle.updates ≤ n }
+    ensures first_update { IsFirst (updates_in (divider_of r.old)) n result.cycle.first_update }
+    ensures first_alarm { IsFirst (alarms_in r.old) n result.first_alarm }
+{
+    let divider = registers::divider(r);
+    if divider.is_held() {
+        return RtcEvents::NONE;
+    }
+    if divider.only_counts(n) && divider.has_no_tick(n) {
+        count_on(r, n);
+        return RtcEvents::NONE;
+    }
+    pulses_with_events(r, n)
+}
+
+/// Lets `n` pulses pass that change more than the divider's count.
+#[inline(never)]
+fn pass_events(r: &mut RtcParts, n: u64)
+    requires { IsRtc r.old }
+    ensures { r.new ≡ rtc_pulsed_times n r.old }
+{
+    let _events = take_pulses(r, n);
+}
+
+/// Whether `n` pulses, if they bring no update, leave register C: PF is up, or there is no periodic event.
+#[inline(always)]
+fn leaves_flags(r: &RtcParts, divider: &Divider, n: u64) -> bool
+    requires { divider.now ≡ divider_of r.now }
+    ensures { result ≡ true → (pf_of r.now ≡ true) ⊎ (ticks_in (divider_of r.now) n ≡ 0) }
+{
+    registers::is_flagged(r, PERIODIC) || divider.has_no_tick(n)
+}
+
+/// Lets `n` pulses pass for a caller that asks for no events. Without an update, and with PF up or no periodic event, the
+/// divider counts on.
+#[inline(always)]
+pub(crate) fn pass(r: &mut RtcParts, n: u64)
+    requires { IsRtc r.old }
+    ensures { r.new ≡ rtc_pulsed_times n r.old }
+{
+    let divider = registers::divider(r);
+    if divider.is_held() {
+        return;
+    }
+    if divider.only_counts(n) && leaves_flags(r, &divider, n) {
+        count_on(r, n);
+        return;
+    }
+    pass_events(r, n);
 }

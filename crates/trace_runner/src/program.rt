@@ -64,7 +64,7 @@ use trace_loop::{MEMORY_FAULT, answer_lines, say};
 ///   help or the version.
 /// - `Usage`: the words are no command; the usage is printed, and nothing is taken.
 /// - `BadRecord`: that line, or the end of the input at it, is refused for the reason given.
-/// - `OutOfRange`: the time of that line's count, or that after a move's gap, is 2^59 ns or more.
+/// - `OutOfRange`: the time of that line's count, or that after a move's gap, is `clk_units::RANGE_NS` or more.
 /// - `VersionsSpent`: that line would publish a page, or the wall clock's words, past the last version.
 /// - `Spent`: 2^62 accesses came before that line.
 /// - `SourceFault`, `SinkFault`: only where that end counted a fault in this call. What was written is then the blocks

@@ -1,29 +1,16 @@
 //! The job `race`: a trace whose processors run on threads of their own.
-ghost use Rattle.std.specs.Prelude.{◌≡◌, ℕ, ◌-◌, List, ◌⊎◌, Some, None, map, take, [], IfOk};
+ghost use Rattle.std.specs.Prelude.{◌≡◌, ◌⊎◌, map, [], IfOk};
 ghost use Rattle.race_phase.specs.Parts.{id_of};
-ghost use Rattle.trace_loop.specs.Text.{memory_fault_text};
 ghost use Rattle.trace_runner.specs.Checked.Checked.{Whole};
 ghost use Rattle.trace_runner.specs.private.CheckEnd.{IsRace};
+ghost use Rattle.trace_runner.specs.private.Raced.{OfInput, WhereAlone, Raced, RacedAlone, HadGoneOn, HadNoPlaces};
 ghost use Rattle.board_io.specs.Faults.{Rose};
 ghost use Rattle.trace_loop.specs.Outcome.{KeepsEnds, Leaves};
-ghost use Rattle.trace_runner.specs.Check.{
-  check_after,
-  check,
-  check_answer,
-  check_closing,
-  unchecked,
-};
+ghost use Rattle.trace_runner.specs.Check.{check_answer, check_closing, unchecked};
 ghost use Rattle.trace_runner.specs.FileText.{file_text};
-ghost use Rattle.trace_runner.specs.Race.{
-  RacePrints,
-  CheckedLeaves,
-  RaceLeaves,
-  AloneLeaves,
-  check_run,
-};
-ghost use Rattle.trace_runner.specs.Replay.{replay, at_start};
-ghost use Rattle.trace_runner.specs.Said.{PutsOnly, Said, SaidAtMost};
-ghost use Rattle.trace_runner.specs.Trace.{TraceRead};
+ghost use Rattle.trace_runner.specs.Race.{RacePrints, CheckedLeaves};
+ghost use Rattle.trace_runner.specs.Replay.{at_start};
+ghost use Rattle.trace_runner.specs.Said.{PutsOnly, SaidAtMost};
 ghost use Rattle.trace_runner.specs.Status.{verdict_status};
 
 use crate::checker::Checker;
@@ -49,28 +36,14 @@ pub(crate) fn race<R: Threads + Wait + Sync, S: Source, K: Sink, G: Gate + Sync>
     source: &mut S,
     sink: &mut K,
 ) -> Status
-    ensures leaves { (input : List ℕ) → (S.input source.old).remaining ≡ Some input
-        → RaceLeaves (check_run shows_state input (S.input source.old)
-        (S.input source.new))
-        result (K.output sink.old).contents (K.output sink.new).contents
-        (Rose (K.output sink.old).faults (K.output sink.new).faults)
-        ⊎ (Said Status.NoMemory result (K.output sink.old).contents (K.output sink.new).contents
-        memory_fault_text (Rose (K.output sink.old).faults (K.output sink.new).faults)
-        × (source.new ≡ source.old)) }
-    ensures alone { (input : List ℕ) → (S.input source.old).remaining ≡ Some input
-        → (trace : TraceRead) → (check shows_state input).end ≡ Whole trace
-        → trace.opening.cpus ≡ 1
-        → AloneLeaves (check_run shows_state input (S.input source.old)
-        (S.input source.new))
-        (replay shows_state input) result (K.output sink.old).contents (K.output sink.new).contents
-        (Rose (K.output sink.old).faults (K.output sink.new).faults)
-        ⊎ (Said Status.NoMemory result (K.output sink.old).contents (K.output sink.new).contents
-        memory_fault_text (Rose (K.output sink.old).faults (K.output sink.new).faults)
-        × (source.new ≡ source.old)) }
-    ensures stopped { (input : List ℕ) → (S.input source.old).remaining ≡ Some input
-        → ((check_after shows_state
-        (take ((S.input source.new).before - (S.input source.old).given) input)).end ≡ None)
-        ⊎ (source.new ≡ source.old) }
+    ensures leaves { OfInput (S.input source.old) (λ input.
+        Raced shows_state result (S.input source.old) (S.input source.new) (K.output sink.old) (K.output sink.new) input
+        ⊎ HadNoPlaces result source.old source.new (K.output sink.old) (K.output sink.new)) }
+    ensures alone { OfInput (S.input source.old) (λ input. WhereAlone shows_state input
+        (RacedAlone shows_state result (S.input source.old) (S.input source.new) (K.output sink.old) (K.output sink.new) input
+        ⊎ HadNoPlaces result source.old source.new (K.output sink.old) (K.output sink.new))) }
+    ensures stopped { OfInput (S.input source.old) (λ input.
+        HadGoneOn shows_state (S.input source.old) (S.input source.new) input ⊎ (source.new ≡ source.old)) }
     ensures ends { KeepsEnds Status.SourceFault Status.SinkFault result (S.input source.old)
         (S.input source.new) (K.output sink.old) (K.output sink.new) }
 {
@@ -92,21 +65,12 @@ fn race_in<F: Feeding + Send + Sync, R: Threads + Wait + Sync, S: Source, K: Sin
 ) -> Status
     requires first { row.opening.id ≡ F.opening }
     requires row { map id_of row.pieces.items ≡ F.pieces }
-    ensures leaves { (input : List ℕ) → (S.input source.old).remaining ≡ Some input
-        → RaceLeaves (check_run shows_state input (S.input source.old)
-        (S.input source.new))
-        result (K.output sink.old).contents (K.output sink.new).contents
-        (Rose (K.output sink.old).faults (K.output sink.new).faults) }
-    ensures alone { (input : List ℕ) → (S.input source.old).remaining ≡ Some input
-        → (trace : TraceRead) → (check shows_state input).end ≡ Whole trace
-        → trace.opening.cpus ≡ 1
-        → AloneLeaves (check_run shows_state input (S.input source.old)
-        (S.input source.new))
-        (replay shows_state input) result (K.output sink.old).contents (K.output sink.new).contents
-        (Rose (K.output sink.old).faults (K.output sink.new).faults) }
-    ensures stopped { (input : List ℕ) → (S.input source.old).remaining ≡ Some input
-        → (check_after shows_state
-        (take ((S.input source.new).before - (S.input source.old).given) input)).end ≡ None }
+    ensures leaves { OfInput (S.input source.old) (λ input.
+        Raced shows_state result (S.input source.old) (S.input source.new) (K.output sink.old) (K.output sink.new) input) }
+    ensures alone { OfInput (S.input source.old) (λ input. WhereAlone shows_state input
+        (RacedAlone shows_state result (S.input source.old) (S.input source.new) (K.output sink.old) (K.output sink.new) input)) }
+    ensures stopped { OfInput (S.input source.old) (λ input.
+        HadGoneOn shows_state (S.input source.old) (S.input source.new) input) }
     ensures ends { KeepsEnds Status.SourceFault Status.SinkFault result (S.input source.old)
         (S.input source.new) (K.output sink.old) (K.output sink.new) }
 {

@@ -19,7 +19,7 @@ use crate::replay::Replay;
 use crate::status::{Verdict, refuse, refuse_access, refused_time};
 use board_core::{Access, Reply};
 use clk_units::NoMemory;
-use race_phase::{Deliveries, NewHost, event_lines};
+use race_phase::{Deliveries, NewHost, access_block};
 use reply_text::{CountedLines, clock_line, hv_line, page_line};
 use trace_text::{Call, Job, Record};
 
@@ -200,25 +200,7 @@ fn print_block(
     ensures err { OnErr result (StartsWith out.new.items out.old.items) }
     ensures fresh { IsFresh reply.new }
 {
-    let printed = append_block(line, reply, deliveries, lines, out);
+    let printed = access_block(line, reply, deliveries, Some(lines), out);
     reply.clear();
     printed
-}
-
-/// Appends the lines of a reply's edges and messages, and then its own.
-#[inline(always)]
-#[tactic(auto, unfolding(race_phase::specs::Blocks::block_of))]
-fn append_block(
-    line: u64,
-    reply: &Reply,
-    deliveries: &Deliveries,
-    lines: &mut CountedLines,
-    out: &mut Vec<u8>,
-) -> Result<(), NoMemory>
-    ensures ok { OnOk result
-        (out.new.items ≡ out.old.items ++ block_of deliveries.now line (Acted reply.now)) }
-    ensures err { OnErr result (StartsWith out.new.items out.old.items) }
-{
-    event_lines(reply, deliveries, out)?;
-    lines.board_line(line, reply, out)
 }

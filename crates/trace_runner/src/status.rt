@@ -41,7 +41,7 @@ pub enum Status {
     SinkFault,
     /// Memory ran out.
     NoMemory,
-    /// The time of that line's counter, which is given in nanoseconds, is 2^59 or more.
+    /// The time of that line's counter, which is given in nanoseconds, is `clk_units::RANGE_NS` or more.
     OutOfRange { line: u64, ns: u128 },
     /// There were 2^62 accesses before that line.
     Spent { line: u64, number: u64 },

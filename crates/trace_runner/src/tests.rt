@@ -197,7 +197,7 @@ fn bad(line: u64, reason: Reason) -> Status {
 
 #[test]
 fn the_first_line_outside_ends_a_trace(rt: HostRuntime) -> Result<(), Fail> {
-    let traces: [(&[u8], Status, &[u8]); 8] = [
+    let traces: [(&[u8], Status, &[u8]); 6] = [
         (b"", bad(1, Reason::NoEnd), b"refused 1 noend\n"),
         (
             b"clockboard 1\nbegin\n0 10 step",
@@ -224,23 +224,6 @@ fn the_first_line_outside_ends_a_trace(rt: HostRuntime) -> Result<(), Fail> {
             bad(3, Reason::Form),
             b"refused 3 form\n",
         ),
-        (
-            b"clockboard 1\nbegin\n0 576460752303423488 step\nend\n",
-            Status::OutOfRange {
-                line: 3,
-                ns: u128::from(RANGE_NS),
-            },
-            b"refused 3 range 576460752303423488\n",
-        ),
-        // A move whose gap ends past the range prints nothing but its refusal, not the rise before it.
-        (
-            b"clockboard 1\nbegin\n0 0 out 43 10\n0 0 out 40 01\n0 2000 move 1000000 0 576460752303421488\nend\n",
-            Status::OutOfRange {
-                line: 5,
-                ns: u128::from(RANGE_NS),
-            },
-            b"3 1\n4 2\nrefused 5 range 576460752303423488\n",
-        ),
     ];
     for (trace, status, text) in traces {
         expect(&rt, &["replay"], trace, &WELL, status, text)?;
@@ -254,6 +237,33 @@ fn the_first_line_outside_ends_a_trace(rt: HostRuntime) -> Result<(), Fail> {
         bad(1, Reason::TooLong),
         b"refused 1 long\n",
     )?;
+    Ok(())
+}
+
+#[test]
+fn a_time_past_the_range_ends_a_trace(rt: HostRuntime) -> Result<(), Fail> {
+    let alloc = rt.alloc();
+    let step = format!(in alloc; "clockboard 1\nbegin\n0 {RANGE_NS} step\nend\n")?;
+    // A move whose gap ends past the range prints nothing but its refusal, not the rise before it.
+    let gap = RANGE_NS - 2_000;
+    let moved = format!(in alloc;
+        "clockboard 1\nbegin\n0 0 out 43 10\n0 0 out 40 01\n0 2000 move 1000000 0 {gap}\nend\n"
+    )?;
+    for (trace, before, line) in [(&step, "", 3u64), (&moved, "3 1\n4 2\n", 5)] {
+        let status = Status::OutOfRange {
+            line,
+            ns: u128::from(RANGE_NS),
+        };
+        let text = format!(in alloc; "{before}refused {line} range {RANGE_NS}\n")?;
+        expect(
+            &rt,
+            &["replay"],
+            trace.as_bytes(),
+            &WELL,
+            status,
+            text.as_bytes(),
+        )?;
+    }
     Ok(())
 }
 

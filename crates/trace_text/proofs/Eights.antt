@@ -43,7 +43,7 @@ use Rattle.std.proofs.lemmas.Str.{digit_value_digit}
 use lib.Lanes.{number_l}
 use Rattle.trace_text.proofs.Spells.{spelled-more, spelled-space, spelled-ended, not_space}
 use Rattle.trace_text.specs.private.Spelled.{spelled, AreDigits, words_from}
-use Rattle.trace_text.specs.declared.bytes.TheConstants.{TENS}
+use Rattle.trace_text.specs.declared.digits.TheConstants.{TENS}
 
 power : (b k : ℕ) → b ^ suc k ≡ b ^ k * b
 power b k = let same : k + 1 ≡ suc k = omega arith in rw same at (pow_more b k)
@@ -105,7 +105,8 @@ leading xs (suc n) i a b p q (suc k) fit room ea eb within low =
     (λ j l. let next = low (suc j) (omega arith) in (shifted a j ∙ next.0, shifted b j ∙ next.1)) in
     (each now.0 more.0, more.1, omega (arith, more.2, now.3))
   where
-    each : IsInRange 48 57 (get_or xs i 0) → ((j : ℕ) → j < k → IsInRange 48 57 (get_or xs (i + 1 + j) 0)) → (j : ℕ) → j < suc k → IsInRange 48 57 (get_or xs (i + j) 0)
+    each : IsInRange 48 57 (get_or xs i 0) → ((j : ℕ) → j < k → IsInRange 48 57 (get_or xs (i + 1 + j) 0))
+        → (j : ℕ) → j < suc k → IsInRange 48 57 (get_or xs (i + j) 0)
     each now later zero l = let same : i + 0 ≡ i = omega arith in rw same now
     each now later (suc j) l = let same : i + suc j ≡ i + 1 + j = omega arith in rw same (later j (omega arith))
 
@@ -184,7 +185,8 @@ joined_is a b c d e f g h w A B C D E F G H is =
     let n : ℕ = ((((0 * 256 + s) * 65536) + (z * 256 + r)) * 65536 + (y * 256 + q)) * 65536 + (x * 256 + p) in
     let product : w * 2561 ≡ (h * 10) * 18446744073709551616 + (n * 256 + a) = omega arith in
     let pairs = cut (w * 2561) (h * 10) n a 256 (omega arith) (omega arith) product in
-    let kept = pairs_kept p q r s x y z 0 n (omega arith) (omega arith) (omega arith) (omega arith) (omega arith) (omega arith) (omega arith) (omega arith) refl in
+    let kept = pairs_kept p q r s x y z 0 n (omega arith) (omega arith) (omega arith) (omega arith) (omega arith) (omega arith) (omega arith)
+    (omega arith) refl in
     let m : ℕ = ((s * 65536 + r) * 65536 + q) * 65536 + p in
     let t : ℕ = p * 100 + q in
     let u : ℕ = r * 100 + s in
@@ -253,7 +255,9 @@ digits-below xs i zero range = tt
 digits-below xs i (suc k) range =
     let here : i + 0 ≡ i = omega arith in
     let first = rw here at (range 0 (omega arith)) in
-    (omega (arith, first.0, first.1), digits-below xs (i + 1) k (λ j l. let same : i + 1 + j ≡ i + suc j = omega arith in rw same (range (suc j) (omega arith))))
+    let later : (j : ℕ) → j < k → IsInRange 48 57 (get_or xs (i + 1 + j) 0) =
+    λ j l. let same : i + 1 + j ≡ i + suc j = omega arith in rw same (range (suc j) (omega arith)) in
+    (omega (arith, first.0, first.1), digits-below xs (i + 1) k later)
 
 digits-word : (xs : List ℕ) (i k : ℕ) → AllBelowBase 10 (digits_from xs i k) → number_l 256 (digits_from xs i k) < 256 ^ k
 digits-word xs i zero fit = omega arith
@@ -327,7 +331,12 @@ are_digits xs i k n room range is =
     let long : length ds ≡ k = length-digits_from xs i k in
     let count : i + k - i ≡ k = omega arith in
     let below : n < 10 ^ k = rw (long, ← is) at (number_lt 10 ds (digits-below xs i k range)) in
-    rw count (below, λ already read fits. let after = rw (long, ← is) at (number_after ds read) in rw (← after) (spelled-digits xs k already read i room range fits))
+    rw count (
+      below,
+      λ already read fits.
+          let after = rw (long, ← is) at (number_after ds read) in
+          rw (← after) (spelled-digits xs k already read i room range fits),
+    )
 
 -- ---- what is made of a word
 

@@ -1,5 +1,34 @@
 -- Lines that are no record.
-use Rattle.std.proofs.Common.{◌≡◌, ℕ, ◌-◌, ◌<◌, ◌≤◌, ◌⊎◌, inl, inr, Bool, true, false, cond, eqb, ltb, leb, length, get_or, List, [], ◌∷◌, Option, None, Result, Ok, Err, IsErr, refl, arith}
+use Rattle.std.proofs.Common.{
+  ◌≡◌,
+  ℕ,
+  ◌-◌,
+  ◌<◌,
+  ◌≤◌,
+  ◌⊎◌,
+  inl,
+  inr,
+  Bool,
+  true,
+  false,
+  cond,
+  eqb,
+  ltb,
+  leb,
+  length,
+  get_or,
+  List,
+  [],
+  ◌∷◌,
+  Option,
+  None,
+  Result,
+  Ok,
+  Err,
+  IsErr,
+  refl,
+  arith,
+}
 use Rattle.std.specs.Prelude.{codes}
 use Rattle.std.specs.Bool.{OnFalse}
 use Rattle.std.specs.List.{slice_split, onto_first}

@@ -17,7 +17,7 @@ pub two_decimals : (at a b n : ℕ) (line : List ℕ) → get_or line at 0 ≡ a
 two_decimals at a b n line ea a0 a9 eb b0 b9 value inside space =
     let high : digit_value (get_or line at 0) ≡ a - 48 = ap digit_value ea ∙ decimal_digit a a0 a9 in
     let low : digit_value (get_or line (at + 1) 0) ≡ b - 48 = ap digit_value eb ∙ decimal_digit b b0 b9 in
-    rw (← value) (two_digits at (a - 48) (b - 48) line high (omega arith) low (omega arith) inside space)
+    rw (← value) (two_digits 16 at (a - 48) (b - 48) line (omega arith) high (omega arith) low (omega arith) (omega arith) inside space)
 
 -- the ports of the 8254, and of the MC146818
 pub pit_port : (n : ℕ) → 64 ≤ n → n ≤ 67 → is_port n ≡ true

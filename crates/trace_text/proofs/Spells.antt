@@ -18,6 +18,8 @@ use Rattle.std.proofs.Common.{
   get_or,
   List,
   [],
+  subst,
+  sym,
   ◌∷◌,
   Some,
   None,
@@ -28,6 +30,7 @@ use Rattle.std.proofs.Common.{
   inr,
   arith,
 }
+use Rattle.std.proofs.Math.Nat.{mul_comm}
 use Rattle.std.specs.Char.{digit_value}
 use Rattle.std.proofs.lemmas.Bool.{cases_lt, lt-ltb, le-ltb, eq-eqb, ne_eqb, le-leb, lt-leb}
 use Rattle.std.proofs.lemmas.List.{at_drop_more, drop_more}
@@ -161,24 +164,28 @@ one_digit base at digit line most same small h space =
     rw (count) (more ∙ rw value (spelled-ended base (0 + 1) digit (at + 1) line space))
 
 -- two digits, and a space or the line's end
-pub two_digits : (at high low : ℕ) (line : List ℕ)
-    → digit_value (get_or line at 0) ≡ high → high < 16 → digit_value (get_or line (at + 1) 0) ≡ low → low < 16
+pub two_digits : (base at high low : ℕ) (line : List ℕ) → base ≤ 16
+    → digit_value (get_or line at 0) ≡ high → high < base → digit_value (get_or line (at + 1) 0) ≡ low → low < base
+    → base * high + low < 18446744073709551616
     → at + 2 ≤ length line → (at + 2 < length line → get_or line (at + 2) 0 ≡ 32)
-    → spelled 16 0 0 (drop at line)
-    ≡ Some (record { count = at + 2 - at; value = 16 * high + low; left = words_from (at + 2 + 1) line })
-two_digits at high low line h high_digit l low_digit inside space =
+    → spelled base 0 0 (drop at line)
+    ≡ Some (record { count = at + 2 - at; value = base * high + low; left = words_from (at + 2 + 1) line })
+two_digits base at high low line most h high_digit l low_digit room inside space =
     let first : ℕ = digit_value (get_or line at 0) in
     let second : ℕ = digit_value (get_or line (at + 1) 0) in
-    let n : ℕ = 0 * 16 + first in
-    let a : first < 16 = omega arith in
-    let b : second < 16 = omega arith in
-    let value : n * 16 + second ≡ 16 * high + low = omega arith in
+    let n : ℕ = 0 * base + first in
+    let a : first < base = omega arith in
+    let b : second < base = omega arith in
+    let is_first : n ≡ high = omega arith in
+    let value : n * base + second ≡ base * high + low = ap (λ (x : ℕ). x * base + second) is_first ∙ ap (λ (x : ℕ). high * base + x) l
+    ∙ ap (λ (x : ℕ). x + low) (mul_comm high base) in
+    let fits : n * base + second < 18446744073709551616 = subst (λ (x : ℕ). x < 18446744073709551616) (sym value) room in
     let count : at + 2 - at ≡ 0 + 1 + 1 = omega arith in
     let next : at + 1 + 1 ≡ at + 2 = omega arith in
-    let one = spelled-more 16 0 0 at line (omega arith) (not_space 16 (get_or line at 0) (omega arith) a) a (omega arith) in
+    let one = spelled-more base 0 0 at line (omega arith) (not_space base (get_or line at 0) most a) a (omega arith) in
     let two =
-    spelled-more 16 (0 + 1) n (at + 1) line (omega arith) (not_space 16 (get_or line (at + 1) 0) (omega arith) b) b (omega arith) in
-    rw count (one ∙ two ∙ rw (value, next) (spelled-ended 16 (0 + 1 + 1) (16 * high + low) (at + 2) line space))
+    spelled-more base (0 + 1) n (at + 1) line (omega arith) (not_space base (get_or line (at + 1) 0) most b) b fits in
+    rw count (one ∙ two ∙ rw (value, next) (spelled-ended base (0 + 1 + 1) (base * high + low) (at + 2) line space))
 
 -- one digit more stays below the next power of 16
 pub more_digits : (base n k digit : ℕ) → base ≤ 16 → digit < base → n < 16 ^ k → n * base + digit < 16 ^ (k + 1)

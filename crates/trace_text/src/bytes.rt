@@ -2,9 +2,6 @@
 ghost use Rattle.std.specs.Prelude.{
   ◌≡◌,
   ◌≢◌,
-  ℕ,
-  List,
-  ◌%◌,
   ◌+◌,
   ◌-◌,
   ◌*◌,
@@ -15,27 +12,22 @@ ghost use Rattle.std.specs.Prelude.{
   ◌&&◌,
   nat_lt,
   slice_index,
-  take,
   drop,
   length,
   Option,
   Some,
   None,
   IfSome,
-  IfOk,
-  IfErr,
   MatchOption,
   true,
 };
 ghost use Rattle.std.specs.Bool.{OnTrue};
 ghost use Rattle.std.specs.Char.{digit_value};
-ghost use Rattle.std.specs.Int.Digits.{number_from_digits, AllBelowBase};
 ghost use Rattle.std.specs.Option.{SomeIff};
 ghost use Rattle.board_types.specs.Legal.{is_port};
-ghost use Rattle.trace_text.specs.private.Spelled.{spelled, after_word, words_from, AreDigits};
-ghost use lib.Lanes.{number_l};
+ghost use Rattle.trace_text.specs.private.Spelled.{spelled, after_word, words_from, AreDigits, Spells};
 
-use std::simd::prelude::*;
+use crate::digits::{Digits, eight_digits_at, long_number_apart};
 
 /// What a word spells.
 #[derive(Clone, Copy)]
@@ -85,22 +77,10 @@ pub(crate) struct Spelling {
 }
 
 /// No number.
-const NO_SPELLING: Spelling = Spelling { value: 0, end: 0 };
+pub(crate) const NO_SPELLING: Spelling = Spelling { value: 0, end: 0 };
 
 /// How many digits of a long number are read without a test of the line's end.
 const MANY_DIGITS: usize = 12;
-
-/// The digit 0 in each byte of a word.
-const ZEROS: u64 = 0x3030_3030_3030_3030;
-
-/// What takes each byte above the digit 9 to 128 or more, and leaves a digit below.
-const ABOVE_NINES: u64 = 0x4646_4646_4646_4646;
-
-/// The powers of ten by which a number grows with fewer than eight digits.
-static TENS: [u64; 8] = [1, 10, 100, 1_000, 10_000, 100_000, 1_000_000, 10_000_000];
-
-/// The highest bit of each byte of a word.
-const HIGH_BITS: u64 = 0x8080_8080_8080_8080;
 
 /// How many digits of a base of at most 16 spell a number below 2^64, whichever they are.
 const DIGITS_THAT_FIT: usize = 16;
@@ -176,12 +156,7 @@ pub(crate) fn spelling_at(line: &[u8], at: usize, base: u64) -> Option<Spelling>
     requires most { base ≤ 16 }
     requires within { at ≤ length line.now }
     ensures { MatchOption result (spelled base 0 0 (drop at line.now) ≡ None)
-        (λ s. (at ≤ s.end) × (s.end ≤ length line.now) × (spelled base 0 0 (drop at line.now)
-        ≡ Some (record {
-          count = s.end - at;
-          value = s.value;
-          left = words_from (s.end + 1) line.now;
-        }))) }
+        (λ s. (at ≤ s.end) × (s.end ≤ length line.now) × Spells base line.now at s.end s.value) }
 {
     let mut n = 0;
     for i in at..line.len() {
@@ -242,16 +217,16 @@ fn short_spelling(line: &[u8], at: usize, from: usize, base: u64, read: u64) -> 
 }
 
 /// The number at a place of a line, if it is decimal, begins with another digit than zero, and has at most 16
-/// digits.
+/// digits. One of two digits, as that of a processor, is read here.
 #[inline(always)]
 pub(crate) fn few_digits_at(line: &[u8], at: usize) -> Option<Spelling>
+    requires { at ≤ length line.now + 1 }
     ensures { IfSome result (λ s. (at < s.end) × (s.end ≤ length line.now)
-        × (slice_index line.now at ≢ 48) × (spelled 10 0 0 (drop at line.now) ≡ Some (record {
-          count = s.end - at;
-          value = s.value;
-          left = words_from (s.end + 1) line.now;
-        }))) }
+        × (slice_index line.now at ≢ 48) × Spells 10 line.now at s.end s.value) }
 {
+    if let Some(value) = two_decimals_at(line, at) {
+        return Some(Spelling { value, end: at + 2 });
+    }
     let spelling = few_digits_apart(line, at);
     if spelling.end == 0 {
         None
@@ -260,16 +235,31 @@ pub(crate) fn few_digits_at(line: &[u8], at: usize) -> Option<Spelling>
     }
 }
 
+/// The number of the two decimal digits at a place of a line, if the first isn't a zero, and a space or the line's end
+/// follows.
+#[inline(always)]
+fn two_decimals_at(line: &[u8], at: usize) -> Option<u64>
+    requires { at ≤ length line.now + 1 }
+    ensures { IfSome result (λ n. (at + 2 ≤ length line.now) × (slice_index line.now at ≢ 48)
+        × Spells 10 line.now at (at + 2) n) }
+{
+    if line.len() < at + 2 || !ends_at(line, at + 2) {
+        return None;
+    }
+    let high = decimal_digit_of(line[at]);
+    let low = decimal_digit_of(line[at + 1]);
+    if high == 0 || high >= 10 || low >= 10 {
+        return None;
+    }
+    Some(10 * high + low)
+}
+
 /// The same, with an end of 0 for no such number. It is apart from where it is called, for numbers of a few digits, and
 /// its result is small enough to be given in registers.
 #[inline(never)]
 fn few_digits_apart(line: &[u8], at: usize) -> Spelling
     ensures { 0 < result.end → (at < result.end) × (result.end ≤ length line.now)
-        × (slice_index line.now at ≢ 48) × (spelled 10 0 0 (drop at line.now) ≡ Some (record {
-          count = result.end - at;
-          value = result.value;
-          left = words_from (result.end + 1) line.now;
-        })) }
+        × (slice_index line.now at ≢ 48) × Spells 10 line.now at result.end result.value }
 {
     if at >= line.len() {
         return NO_SPELLING;
@@ -284,87 +274,6 @@ fn few_digits_apart(line: &[u8], at: usize) -> Spelling
     }
 }
 
-/// Eight bytes of a line as one word, the first of them in its lowest byte. They are loaded at once.
-#[inline(always)]
-fn word_at(line: &[u8], at: usize) -> u64
-    requires { at + 8 ≤ length line.now }
-    ensures { result ≡ number_l 256 (take 8 (drop at line.now)) % 2 ^ 64 }
-{
-    u64x1::from_le_bytes(u8x8::from_slice(&line[at..])).to_array()[0]
-}
-
-/// The number of the eight digits in the bytes of a word, the first of them in its lowest byte: two digits are joined
-/// at a time, then two pairs, then the halves.
-#[inline(always)]
-fn joined(digits: u64) -> u64
-    ensures { (ds : List ℕ) → length ds ≡ 8 → AllBelowBase 10 ds → digits ≡ number_l 256 ds
-        → result ≡ number_from_digits 10 ds }
-{
-    let pairs = (digits.wrapping_mul(2561) >> 8) & 0x00ff_00ff_00ff_00ff;
-    let halves = (pairs.wrapping_mul(6_553_601) >> 16) & 0x0000_ffff_0000_ffff;
-    halves.wrapping_mul(42_949_672_960_001) >> 32
-}
-
-/// The decimal digits that the eight bytes at a place of a line begin with: the number of all eight, or as an `Err` that
-/// of the fewer before another byte. All are read as one word, without a branch for each.
-#[inline(always)]
-fn eight_digits_at(line: &[u8], at: usize) -> Result<u64, Spelling>
-    requires { at + 8 ≤ length line.now }
-    ensures eight { IfOk result (λ n. AreDigits line.now at (at + 8) n) }
-    ensures fewer { IfErr result
-        (λ s. (at ≤ s.end) × (s.end < at + 8) × AreDigits line.now at s.end s.value) }
-{
-    let word = word_at(line, at);
-    let digits = word.wrapping_sub(ZEROS);
-    let others = (word.wrapping_add(ABOVE_NINES) | digits) & HIGH_BITS;
-    if others == 0 {
-        return Ok(joined(digits));
-    }
-    let count = others.trailing_zeros() / 8;
-    let last = digits << (56 - 8 * count) << 8;
-    Err(Spelling {
-        value: joined(last),
-        end: at + count as usize,
-    })
-}
-
-/// The number at a place of a line of which the first eight digits spell `read`, if it has at most 16 digits, with an end
-/// of 0 for any other: the digits after the eight are read as one word too. It is apart from where it is called, which
-/// most counters don't need.
-#[inline(never)]
-fn long_number_apart(line: &[u8], at: usize, read: u64) -> Spelling
-    requires within { at + 16 ≤ length line.now }
-    requires read { AreDigits line.now at (at + 8) read }
-    ensures { 0 < result.end → (at < result.end) × (result.end ≤ length line.now)
-        × (spelled 10 0 0 (drop at line.now) ≡ Some (record {
-          count = result.end - at;
-          value = result.value;
-          left = words_from (result.end + 1) line.now;
-        })) }
-{
-    match eight_digits_at(line, at + 8) {
-        Ok(more) => {
-            if !ends_at(line, at + 16) {
-                return NO_SPELLING;
-            }
-            Spelling {
-                value: read * 100_000_000 + more,
-                end: at + 16,
-            }
-        }
-        Err(fewer) => {
-            if line[fewer.end] != b' ' {
-                return NO_SPELLING;
-            }
-            let power = TENS[fewer.end - (at + 8)];
-            Spelling {
-                value: read * power + fewer.value,
-                end: fewer.end,
-            }
-        }
-    }
-}
-
 /// The number at a place of a line of which the first eight digits spell `read`, if it has at most 12 digits, or at most
 /// 16 in a line that goes on for 16 bytes.
 #[inline(always)]
@@ -372,11 +281,7 @@ fn after_eight(line: &[u8], at: usize, read: u64) -> Option<Spelling>
     requires within { at + 12 ≤ length line.now }
     requires read { AreDigits line.now at (at + 8) read }
     ensures { IfSome result (λ s. (at < s.end) × (s.end ≤ length line.now)
-        × (spelled 10 0 0 (drop at line.now) ≡ Some (record {
-          count = s.end - at;
-          value = s.value;
-          left = words_from (s.end + 1) line.now;
-        }))) }
+        × Spells 10 line.now at s.end s.value) }
 {
     if line[at + 8] == b' ' {
         return Some(Spelling {
@@ -424,11 +329,7 @@ fn after_eight(line: &[u8], at: usize, read: u64) -> Option<Spelling>
 pub(crate) fn decimal_at(line: &[u8], at: usize) -> Option<Spelling>
     requires { at ≤ length line.now + 1 }
     ensures { IfSome result (λ s. (at < s.end) × (s.end ≤ length line.now)
-        × (slice_index line.now at ≢ 48) × (spelled 10 0 0 (drop at line.now) ≡ Some (record {
-          count = s.end - at;
-          value = s.value;
-          left = words_from (s.end + 1) line.now;
-        }))) }
+        × (slice_index line.now at ≢ 48) × Spells 10 line.now at s.end s.value) }
 {
     if line.len() < at + MANY_DIGITS {
         return few_digits_at(line, at);
@@ -438,8 +339,8 @@ pub(crate) fn decimal_at(line: &[u8], at: usize) -> Option<Spelling>
         return None;
     }
     let n = match eight_digits_at(line, at) {
-        Ok(n) => n,
-        Err(fewer) => {
+        Digits::Eight(n) => n,
+        Digits::Fewer(fewer) => {
             return if line[fewer.end] == b' ' {
                 Some(fewer)
             } else {
@@ -455,11 +356,7 @@ pub(crate) fn decimal_at(line: &[u8], at: usize) -> Option<Spelling>
 #[inline(always)]
 pub(crate) fn hexadecimal_at(line: &[u8], at: usize) -> Option<Spelling>
     ensures { IfSome result (λ s. (at < s.end) × (s.end ≤ length line.now) × (s.end ≤ at + 16)
-        × (spelled 16 0 0 (drop at line.now) ≡ Some (record {
-          count = s.end - at;
-          value = s.value;
-          left = words_from (s.end + 1) line.now;
-        }))) }
+        × Spells 16 line.now at s.end s.value) }
 {
     if at >= line.len() {
         return None;
@@ -474,7 +371,7 @@ pub(crate) fn hexadecimal_at(line: &[u8], at: usize) -> Option<Spelling>
 
 /// Whether a word that reaches up to a place ends there.
 #[inline(always)]
-fn ends_at(line: &[u8], at: usize) -> bool
+pub(crate) fn ends_at(line: &[u8], at: usize) -> bool
     ensures { OnTrue result (at < length line.now → slice_index line.now at ≡ 32) }
 {
     at >= line.len() || line[at] == b' '
@@ -484,12 +381,7 @@ fn ends_at(line: &[u8], at: usize) -> bool
 #[inline(always)]
 pub(crate) fn one_digit_at(line: &[u8], at: usize) -> Option<u64>
     requires { at ≤ length line.now + 1 }
-    ensures { IfSome result (λ n. (at + 1 ≤ length line.now) × (spelled 10 0 0 (drop at line.now)
-        ≡ Some (record {
-          count = at + 1 - at;
-          value = n;
-          left = words_from (at + 1 + 1) line.now;
-        }))) }
+    ensures { IfSome result (λ n. (at + 1 ≤ length line.now) × Spells 10 line.now at (at + 1) n) }
 {
     if line.len() <= at || !ends_at(line, at + 1) {
         return None;
@@ -502,12 +394,7 @@ pub(crate) fn one_digit_at(line: &[u8], at: usize) -> Option<u64>
 #[inline(always)]
 pub(crate) fn two_digits_at(line: &[u8], at: usize) -> Option<u8>
     requires { at ≤ length line.now + 1 }
-    ensures { IfSome result (λ n. (at + 2 ≤ length line.now) × (spelled 16 0 0 (drop at line.now)
-        ≡ Some (record {
-          count = at + 2 - at;
-          value = n;
-          left = words_from (at + 2 + 1) line.now;
-        }))) }
+    ensures { IfSome result (λ n. (at + 2 ≤ length line.now) × Spells 16 line.now at (at + 2) n) }
 {
     if line.len() < at + 2 {
         return None;
@@ -530,11 +417,7 @@ pub(crate) fn two_digits_at(line: &[u8], at: usize) -> Option<u8>
 pub(crate) fn port_at(line: &[u8], at: usize) -> Option<u8>
     requires { at ≤ length line.now + 1 }
     ensures { IfSome result (λ n. (at + 2 ≤ length line.now) × (is_port n ≡ true)
-        × (spelled 16 0 0 (drop at line.now) ≡ Some (record {
-          count = at + 2 - at;
-          value = n;
-          left = words_from (at + 2 + 1) line.now;
-        }))) }
+        × Spells 16 line.now at (at + 2) n) }
 {
     if line.len() < at + 2 || !ends_at(line, at + 2) {
         return None;

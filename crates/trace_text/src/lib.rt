@@ -15,6 +15,7 @@
 #![tactic(auto)]
 
 mod bytes;
+mod digits;
 mod faults;
 mod groups;
 mod header;

@@ -16,6 +16,7 @@ use Rattle.std.specs.Prelude.{
   None,
   IfSome,
   List,
+  [],
   length,
   slice_index_or,
 }
@@ -82,3 +83,9 @@ pub record HaveRunTimers (span : Span) (h : HpetParts) (matches : List Matches)
       (slice_index_or before (k + 2) no_line)
   pub rest : (j : ℕ) → h.timers + 2 ≤ j
       → slice_index_or after j no_line ≡ slice_index_or before j no_line
+
+-- the first edge of a run after `now` and up to `to`, or none
+abbrev pub IsEdgeBy : ℕ → ℕ → DeviceParts → Option ℕ → Type 0
+IsEdgeBy now to d None = (run now (to - now) d).edges ≡ []
+IsEdgeBy now to d (Some t) =
+    (now < t) × (t ≤ to) × ((run now (t - 1 - now) d).edges ≡ []) × ((run now (t - now) d).edges ≢ [])

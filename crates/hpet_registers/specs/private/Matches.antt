@@ -1,9 +1,10 @@
 -- The matches of timers over a stretch; private contracts alone cite them.
-use Rattle.std.specs.Prelude.{◌≡◌, ℕ, suc, ◌<◌, ◌≤◌, List}
+use Rattle.std.specs.Prelude.{◌≡◌, ℕ, suc, ◌<◌, ◌≤◌, List, false, ◌⊎◌}
 use Rattle.clk_units.specs.Events.{IsFirst}
 use Rattle.hpet_comparator.specs.Counter.{counter_after}
 use Rattle.hpet_comparator.specs.declared.parts.TimerParts.{TimerParts}
 use Rattle.hpet_comparator.specs.declared.stretch.Matches.{Matches}
+use Rattle.hpet_comparator.specs.Parts.{is_level, is_periodic}
 use Rattle.hpet_comparator.specs.Stretch.{matches_at, pulsed_times, matches_in, spacing_of}
 use Rattle.hpet_comparator.specs.Stretch.{falls_on}
 use Rattle.hpet_registers.specs.Stretch.{no_matches, timer_matches}
@@ -23,3 +24,7 @@ pub record AreMatchesBelow (reach timers : ℕ) (matches : List Matches) : Type 
   pub inside : reach ≤ timers
   pub places : reach ≤ 8
   pub quiet : (k : ℕ) → reach ≤ k → (timer_matches matches k).count ≡ 0
+
+-- over n pulses of a main counter that is at from, no match changes the timer or its status bit
+abbrev pub IsStill : ℕ → ℕ → TimerParts → Type 0
+IsStill from n t = ((is_periodic t ≡ false) × (is_level t ≡ false)) ⊎ (matches_in from t n ≡ 0)

@@ -1,5 +1,5 @@
 -- What a worker has taken of a trace's parts, and what it did with them.
-use Rattle.std.specs.Prelude.{◌≡◌, ℕ, ◌<◌, List, [], ◌∷◌, length, slice_index_or, None, Result, IfOk}
+use Rattle.std.specs.Prelude.{◌≡◌, ℕ, ◌<◌, List, [], ◌∷◌, length, slice_index_or, Option, None, Some, Result, IfOk, Box}
 use Rattle.race_phase.specs.declared.deliveries.Deliveries.{Deliveries}
 use Rattle.board_types.specs.declared.parts.BoardParts.{BoardParts}
 use Rattle.shared_board.specs.declared.known.PassKnown.{PassKnown}
@@ -12,6 +12,11 @@ use Rattle.race_phase.specs.Order.{after_records, records_fault}
 use Rattle.race_phase.specs.Phases.{IsPhase, phase_fault}
 use Rattle.race_phase.specs.private.Ran.{AreAlike, PhaseRan, PhaseTold}
 use Rattle.race_phase.specs.private.Workers.{AllWorked, HasWorked}
+
+-- the board that a phase left, or the first one
+abbrev pub board_or : {A : Type 0} → BoardParts → Option (Box BoardParts A) → BoardParts
+board_or first None = first
+board_or first (Some board) = board.value
 
 -- these parts are one phase, which has this end and fits the board
 pub record ArePhase (s : BoardParts) (ps : List Part) (end : End) (v : Phase) : Type 0 where

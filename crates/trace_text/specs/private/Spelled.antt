@@ -32,6 +32,8 @@ use Rattle.std.specs.Char.{digit_value}
 use Rattle.std.specs.List.{starts_with}
 use Rattle.trace_text.specs.Tokens.{words_of, number_in}
 use Rattle.trace_text.specs.declared.bytes.Number.{Number}
+use Rattle.trace_text.specs.declared.digits.Digits.{Digits}
+use Rattle.trace_text.specs.declared.digits.Digits.TheVariants.{Eight, Fewer}
 
 -- what was spelled: how many digits, their number, and the words after
 pub record Spelled : Type 0 where
@@ -56,6 +58,11 @@ AreDigits line at end n =
     × ((count read : ℕ) → (read + 1) * 10 ^ (end - at) ≤ 18446744073709551616
     → spelled 10 count read (drop at line) ≡ spelled 10 (count + (end - at)) (read * 10 ^ (end - at) + n) (drop end line))
 
+-- the decimal digits that the eight bytes from a place of a line on begin with
+abbrev pub AreRead : List ℕ → ℕ → Digits → Type 0
+AreRead line at (Eight n) = AreDigits line at (at + 8) n
+AreRead line at (Fewer s) = (at ≤ s.end) × (s.end < at + 8) × AreDigits line at s.end s.value
+
 -- the words after a first word that is this one
 unfoldable pub after_word : List ℕ → List ℕ → Option (List (List ℕ))
 after_word [] [] = Some []
@@ -75,6 +82,11 @@ shortened count (w ∷ ws) = drop count w ∷ ws
 -- the words of a line from a place on: none after its end
 unfoldable pub words_from : ℕ → List ℕ → List (List ℕ)
 words_from at line = if nat_le at (length line) then words_of (drop at line) else []
+
+-- the bytes from a place of a line up to another are a word, which spells this number in a base
+abbrev pub Spells : ℕ → List ℕ → ℕ → ℕ → ℕ → Type 0
+Spells base line at end n =
+    spelled base 0 0 (drop at line) ≡ Some (record { count = end - at; value = n; left = words_from (end + 1) line })
 
 -- a word's number, how many digits it has, and whether it begins with a zero
 unfoldable pub number_of : ℕ → List ℕ → Option Number

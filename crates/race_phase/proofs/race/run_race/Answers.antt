@@ -5,7 +5,7 @@ use Rattle.race_phase.specs.declared.opening.Opening.{Opening}
 use Rattle.race_phase.specs.declared.piece.Part.{Part}
 use Rattle.race_phase.specs.Parts.{phases_in, open_in}
 use Rattle.race_phase.specs.Phases.{race_text, trace_fault}
-use Rattle.race_phase.specs.private.Feed.{PhaseHasEnded}
+use Rattle.race_phase.specs.private.Feed.{PhaseHasEnded, board_or}
 use Rattle.race_phase.proofs.Going.{IsGoing, going_end, going_more, going_start, ended_left}
 use Rattle.race_phase.proofs.race.run_race.Given as given
 use Rattle.race_phase.proofs.race.run_race.Goals as goal
@@ -16,17 +16,21 @@ loop-phase-init g c =
     let o = c.in-Some.opening in record {
       shown = sym c.opening.ensures ∙ c.in-Some.is;
       left = ap (open_in []) c.new-taken.ensures.items;
-      going = subst (λ (z : BoardParts × List Part × List ℕ). IsGoing o.deliveries o.state z.0 (phases_in [] z.1) z.2)
-          (λ i. (sym c.in-Ok.ensures.ok i, sym c.new-taken.ensures.items i, sym c.new-text.ensures i)) (going_start o.deliveries o.state);
+      going = subst (λ (z : List Part × List ℕ). IsGoing o.deliveries o.state o.state (phases_in [] z.0) z.1)
+          (λ i. (sym c.new-taken.ensures.items i, sym c.new-text.ensures i)) (going_start o.deliveries o.state);
     }
 
+-- the board with which the phase opened
+abbrev before : (g : given.Over) → In_ok-join_parts g → BoardParts
+before g c = board_or c.in-Some.opening.state c.loop-phase.left
+
 ended : (g : given.Over) (c : In_ok-join_parts g)
-    → PhaseHasEnded c.loop-phase.now.value c.in-Some.opening.deliveries c.in_ok-ended.ended.taken.items c.in_ok-ended.ended.end c.in_ok-ended.ended.board.value
+    → PhaseHasEnded (before g c) c.in-Some.opening.deliveries c.in_ok-ended.ended.taken.items c.in_ok-ended.ended.end c.in_ok-ended.ended.board.value
     c.loop-phase.text c.run_and_end.new.text
 ended g c =
     let w = c.in_ok-ended.ended in
-    subst (λ (b : BoardParts). PhaseHasEnded b c.in-Some.opening.deliveries w.taken.items w.end w.board.value c.loop-phase.text c.run_and_end.new.text) c.deref.ensures
-    c.in_ok-ended.ensures
+    subst (λ (b : BoardParts). PhaseHasEnded b c.in-Some.opening.deliveries w.taken.items w.end w.board.value c.loop-phase.text c.run_and_end.new.text)
+    c.opens_with-state.ensures c.in_ok-ended.ensures
 
 -- the race has come to the board that the phase left
 going : (g : given.Over) (c : In_ok-join_parts g)
@@ -36,7 +40,7 @@ going g c =
     let w = c.in_ok-ended.ended in
     let inv = c.loop-phase.invariant in
     subst (λ (ts : List Part). IsGoing o.deliveries o.state w.board.value (phases_in [] ts) c.run_and_end.new.text) (sym c.in_ok-join_parts.ensures)
-    (going_more o.deliveries o.state c.loop-phase.now.value w.board.value c.loop-phase.taken.items w.taken.items w.end c.loop-phase.text c.run_and_end.new.text
+    (going_more o.deliveries o.state (before g c) w.board.value c.loop-phase.taken.items w.taken.items w.end c.loop-phase.text c.run_and_end.new.text
     inv.left (ended g c) inv.going)
 
 pub loop-phase-preserved : goal.loop-phase-preserved
@@ -47,7 +51,7 @@ loop-phase-preserved g c =
     let at = (goal.at.loop-phase-preserved g c).In_ok-join_parts in record {
       shown = inv.shown;
       left = subst (λ (ts : List Part). open_in [] ts ≡ []) (sym c.in_ok-join_parts.ensures)
-          (ended_left o.deliveries o.state c.loop-phase.now.value w.board.value c.loop-phase.taken.items w.taken.items w.end c.loop-phase.text
+          (ended_left o.deliveries o.state (before g at) w.board.value c.loop-phase.taken.items w.taken.items w.end c.loop-phase.text
           c.run_and_end.new.text inv.left (ended g at));
       going = going g at;
     }

@@ -1,4 +1,24 @@
-use Rattle.std.proofs.Common.{rules, ◌≡◌, ℕ, ◌+◌, ◌<◌, ◌≤◌, List, ◌++◌, length, take, drop, vec_len, vec_capacity, ◌∙◌, ap, sym, arith, append_assoc, length-append}
+use Rattle.std.proofs.Common.{
+  rules,
+  ◌≡◌,
+  ℕ,
+  ◌+◌,
+  ◌<◌,
+  ◌≤◌,
+  List,
+  ◌++◌,
+  length,
+  take,
+  drop,
+  vec_len,
+  vec_capacity,
+  ◌∙◌,
+  ap,
+  sym,
+  arith,
+  append_assoc,
+  length-append,
+}
 use Rattle.std.proofs.lemmas.List.{take-append-le, length-take}
 use Rattle.std.proofs.lemmas.Result.{MatchResult-from_err}
 use Rattle.std.specs.Io.{StartsWith}

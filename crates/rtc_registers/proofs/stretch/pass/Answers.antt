@@ -1,91 +1,23 @@
-use Rattle.std.proofs.Common.{◌≡◌, ◌+◌, ◌-◌, ◌*◌, ◌≤◌, Some, ap, ◌∙◌, arith}
-use Rattle.clk_units.specs.Events.{IsFirst}
-use Rattle.rtc_calendar.specs.Updates.{updated_times}
-use Rattle.rtc_calendar.specs.Alarms.{matches_in}
-use Rattle.rtc_cycle.specs.declared.parts.DividerParts.{DividerParts}
+use Rattle.std.proofs.Common.{◌≡◌, ◌+◌, refl, sym, ◌∙◌}
 use Rattle.rtc_cycle.specs.Divider.{pulsed_times, ticks_in, updates_in}
-use Rattle.rtc_cycle.proofs.Times.{updates_in-apart}
 use Rattle.rtc_registers.specs.declared.parts.RtcParts.{RtcParts}
-use Rattle.rtc_registers.specs.Registers.{divider_of, form_of, time_of, alarm_of}
-use Rattle.rtc_registers.proofs.Times.{moved-is, flags_in-is, is_some-match, IsFirst-alarms_in}
-use Rattle.rtc_registers.proofs.Times.{rtc_pulsed_times-no_event, rtc_pulsed_times-ticked, alarms_in-no_update}
+use Rattle.rtc_registers.specs.Registers.{divider_of}
+use Rattle.rtc_registers.proofs.Times.{rtc_pulsed_times-no_event}
+use Rattle.rtc_registers.proofs.Flags.{rtc_pulsed_times-counted}
 use Rattle.rtc_registers.proofs.stretch.pass.Goals as goal
 
-pub update_pulse-requires : goal.update_pulse-requires
-update_pulse-requires c = λ f k is_f is_k.
+pub returns-then-is_held : goal.returns-then-is_held
+returns-then-is_held c =
     let r : RtcParts = c.args.r.now in
-    let updates : c.pulses-cycle.result.updates ≡ updates_in (divider_of r) c.args.n =
-    c.pulses-cycle.ensures.updates ∙ ap (λ (d : DividerParts). updates_in d c.args.n) c.divider-divider.ensures in
-    let first : IsFirst (updates_in (divider_of r)) c.args.n (Some f) = rw (c.divider-divider.ensures, is_f) at c.pulses-cycle.ensures.first_update in
-    let match : IsFirst (matches_in (form_of r) (alarm_of r) (time_of r)) c.pulses-cycle.result.updates (Some k) =
-    rw is_k at c.take_events-matched.ensures.matched in
-    let apart : (f + (k - 1) * 32768 ≤ c.args.n) × (updates_in (divider_of r) (f + (k - 1) * 32768) ≡ k)
-    × (updates_in (divider_of r) (f + (k - 1) * 32768 - 1) ≡ k - 1) =
-    updates_in-apart (divider_of r) c.requires.divider c.args.n f k first match.0 (omega (arith, match.1, updates)) in
-    (match.0, omega (arith, apart.0, c.ranges.n.fits))
+    let still : pulsed_times c.args.n (divider_of r) ≡ divider_of r = rw c.divider-divider.ensures at (c.if-is_held.ensures.state refl c.args.n) in
+    let no_tick : ticks_in (divider_of r) c.args.n ≡ 0 = rw c.divider-divider.ensures at (c.if-is_held.ensures.ticks refl c.args.n) in
+    let no_update : updates_in (divider_of r) c.args.n ≡ 0 = rw c.divider-divider.ensures at (c.if-is_held.ensures.updates refl c.args.n) in
+    rtc_pulsed_times-no_event c.args.n r c.requires (divider_of r) (sym still) no_tick no_update
 
-pub returns-then-cycle-gt0-clause-state : goal.returns-then-cycle-gt0-clause-state
-returns-then-cycle-gt0-clause-state c =
+pub returns-then-leaves_flags : goal.returns-then-leaves_flags
+returns-then-leaves_flags c =
     let r : RtcParts = c.args.r.now in
-    let divider : c.parts.result ≡ pulsed_times c.args.n (divider_of r) =
-    c.parts.ensures.value ∙ c.pulses-cycle.ensures.state ∙ ap (pulsed_times c.args.n) c.divider-divider.ensures in
-    let ticks : c.pulses-cycle.result.ticks ≡ ticks_in (divider_of r) c.args.n =
-    c.pulses-cycle.ensures.ticks ∙ ap (λ (d : DividerParts). ticks_in d c.args.n) c.divider-divider.ensures in
-    let updates : c.pulses-cycle.result.updates ≡ updates_in (divider_of r) c.args.n =
-    c.pulses-cycle.ensures.updates ∙ ap (λ (d : DividerParts). updates_in d c.args.n) c.divider-divider.ensures in
-    let match : IsFirst (matches_in (form_of r) (alarm_of r) (time_of r)) (updates_in (divider_of r) c.args.n) c.take_events-matched.result =
-    rw updates at c.take_events-matched.ensures.matched in
-    c.take_events-matched.ensures.state
-    ∙ moved-is c.args.n r c.requires _ _ _ divider (ap (λ u. updated_times (form_of r) u (time_of r)) updates)
-    (flags_in-is c.args.n r _ _ _ ticks (is_some-match c.args.n r c.requires c.take_events-matched.result match) updates)
-
-pub returns-then-cycle-gt0-clause-first_alarm : goal.returns-then-cycle-gt0-clause-first_alarm
-returns-then-cycle-gt0-clause-first_alarm c =
-    let r : RtcParts = c.args.r.now in
-    let updates : c.pulses-cycle.result.updates ≡ updates_in (divider_of r) c.args.n =
-    c.pulses-cycle.ensures.updates ∙ ap (λ (d : DividerParts). updates_in d c.args.n) c.divider-divider.ensures in
-    let first : IsFirst (updates_in (divider_of r)) c.args.n c.pulses-cycle.result.first_update =
-    rw c.divider-divider.ensures at c.pulses-cycle.ensures.first_update in
-    let match : IsFirst (matches_in (form_of r) (alarm_of r) (time_of r)) (updates_in (divider_of r) c.args.n) c.take_events-matched.result =
-    rw updates at c.take_events-matched.ensures.matched in
-    rw c.update_pulse.ensures (IsFirst-alarms_in c.args.n r c.requires c.pulses-cycle.result.first_update c.take_events-matched.result first match)
-
-pub returns-then-cycle-gt0-2-clause-state : goal.returns-then-cycle-gt0-2-clause-state
-returns-then-cycle-gt0-2-clause-state c =
-    let r : RtcParts = c.args.r.now in
-    let divider : c.parts-then-cycle-gt0-2.result ≡ pulsed_times c.args.n (divider_of r) =
-    c.parts-then-cycle-gt0-2.ensures.value ∙ c.pulses-cycle.ensures.state ∙ ap (pulsed_times c.args.n) c.divider-divider.ensures in
-    let ticks : c.pulses-cycle.result.ticks ≡ ticks_in (divider_of r) c.args.n =
-    c.pulses-cycle.ensures.ticks ∙ ap (λ (d : DividerParts). ticks_in d c.args.n) c.divider-divider.ensures in
-    let updates : c.pulses-cycle.result.updates ≡ updates_in (divider_of r) c.args.n =
-    c.pulses-cycle.ensures.updates ∙ ap (λ (d : DividerParts). updates_in d c.args.n) c.divider-divider.ensures in
-    c.take_ticks.ensures
-    ∙ rtc_pulsed_times-ticked c.args.n r c.requires c.parts-then-cycle-gt0-2.result divider
-    (omega (arith, ticks, c.if-cycle-gt0-2.true)) (omega (arith, updates, c.if-cycle-gt0.false))
-
-pub returns-then-cycle-gt0-2-clause-first_alarm : goal.returns-then-cycle-gt0-2-clause-first_alarm
-returns-then-cycle-gt0-2-clause-first_alarm c =
-    let r : RtcParts = c.args.r.now in
-    let updates : c.pulses-cycle.result.updates ≡ updates_in (divider_of r) c.args.n =
-    c.pulses-cycle.ensures.updates ∙ ap (λ (d : DividerParts). updates_in d c.args.n) c.divider-divider.ensures in
-    alarms_in-no_update c.args.n r c.requires (omega (arith, updates, c.if-cycle-gt0.false))
-
-pub returns-else-cycle-gt0-2-clause-state : goal.returns-else-cycle-gt0-2-clause-state
-returns-else-cycle-gt0-2-clause-state c =
-    let r : RtcParts = c.args.r.now in
-    let divider : c.parts-else-cycle-gt0-2.result ≡ pulsed_times c.args.n (divider_of r) =
-    c.parts-else-cycle-gt0-2.ensures.value ∙ c.pulses-cycle.ensures.state ∙ ap (pulsed_times c.args.n) c.divider-divider.ensures in
-    let ticks : c.pulses-cycle.result.ticks ≡ ticks_in (divider_of r) c.args.n =
-    c.pulses-cycle.ensures.ticks ∙ ap (λ (d : DividerParts). ticks_in d c.args.n) c.divider-divider.ensures in
-    let updates : c.pulses-cycle.result.updates ≡ updates_in (divider_of r) c.args.n =
-    c.pulses-cycle.ensures.updates ∙ ap (λ (d : DividerParts). updates_in d c.args.n) c.divider-divider.ensures in
-    c.move_divider.ensures
-    ∙ rtc_pulsed_times-no_event c.args.n r c.requires c.parts-else-cycle-gt0-2.result divider
-    (omega (arith, ticks, c.if-cycle-gt0-2.false)) (omega (arith, updates, c.if-cycle-gt0.false))
-
-pub returns-else-cycle-gt0-2-clause-first_alarm : goal.returns-else-cycle-gt0-2-clause-first_alarm
-returns-else-cycle-gt0-2-clause-first_alarm c =
-    let r : RtcParts = c.args.r.now in
-    let updates : c.pulses-cycle.result.updates ≡ updates_in (divider_of r) c.args.n =
-    c.pulses-cycle.ensures.updates ∙ ap (λ (d : DividerParts). updates_in d c.args.n) c.divider-divider.ensures in
-    alarms_in-no_update c.args.n r c.requires (omega (arith, updates, c.if-cycle-gt0.false))
+    let counted : pulsed_times c.args.n (divider_of r) ≡ record (divider_of r) { d = r.d + c.args.n } =
+    rw c.divider-divider.ensures at (c.if-only_counts.ensures.state refl) in
+    let no_update : updates_in (divider_of r) c.args.n ≡ 0 = rw c.divider-divider.ensures at (c.if-only_counts.ensures.updates refl) in
+    c.count_on.ensures ∙ rtc_pulsed_times-counted c.args.n r c.requires (c.if-leaves_flags.ensures refl) no_update counted

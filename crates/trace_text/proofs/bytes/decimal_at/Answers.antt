@@ -7,9 +7,9 @@ use Rattle.trace_text.proofs.bytes.decimal_at.Goals as goal
 pub returns-then-line-fewer-eq32 : goal.returns-then-line-fewer-eq32
 returns-then-line-fewer-eq32 c =
     let at : ℕ = c.args.at in
-    let end : ℕ = c.in-Err.fewer.end in
+    let end : ℕ = c.in-Fewer.fewer.end in
     let first : ℕ = get_or c.args.line.now at 0 in
-    let read = c.in-Err.ensures.fewer in
+    let read = c.in-Fewer.ensures in
     let digit : digit_value first ≡ c.decimal_digit_of-first.result = c.decimal_digit_of-first.ensures.digit (omega arith) in
     let other : first ≡ 48 → ⊥ = λ e. absurd (let value_of : digit_value first ≡ 0 = ap digit_value e in omega arith) in
     let inside : end < length c.args.line.now = omega (arith, read.1) in
@@ -24,7 +24,7 @@ returns-then-line-fewer-eq32 c =
       later,
       omega arith,
       other,
-      fewer_first c.args.line.now at end c.in-Err.fewer.value read.0 read.1 inside read.2 c.if-line-fewer-eq32.true,
+      fewer_first c.args.line.now at end c.in-Fewer.fewer.value read.0 read.1 inside read.2 c.if-line-fewer-eq32.true,
     )
 
 pub returns : goal.returns

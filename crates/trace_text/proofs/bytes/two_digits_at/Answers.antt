@@ -7,6 +7,6 @@ returns-then-low-lt16 c =
     let h = c.digit_of-high.ensures.digit c.if-high-lt16.true in
     let l = c.digit_of-low.ensures.digit c.if-low-lt16.true in
     let spelt =
-    two_digits c.args.at c.digit_of-high.result c.digit_of-low.result c.args.line.now h c.if-high-lt16.true l c.if-low-lt16.true
-    (omega arith) c.if-not-ends_at.ensures in
+    two_digits 16 c.args.at c.digit_of-high.result c.digit_of-low.result c.args.line.now (omega arith) h c.if-high-lt16.true l
+    c.if-low-lt16.true (omega arith) (omega arith) c.if-not-ends_at.ensures in
     (omega arith, spelt)

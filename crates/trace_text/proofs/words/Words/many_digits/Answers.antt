@@ -7,12 +7,14 @@ pub returns-clause-value : goal.returns-clause-value
 returns-clause-value c =
     let s = c.in_ok-spelling.spelling in
     let there =
-    decimal_word c.self.inside.at s.end s.value c.self.inside.line.now c.in_ok-spelling.ensures.0 c.in_ok-spelling.ensures.1 c.in_ok-spelling.ensures.2 c.in_ok-spelling.ensures.3 in
+    decimal_word c.self.inside.at s.end s.value c.self.inside.line.now c.in_ok-spelling.ensures.0 c.in_ok-spelling.ensures.1
+    c.in_ok-spelling.ensures.2 c.in_ok-spelling.ensures.3 in
     ap (first decimal_in) (sym c.self.view_is) ∙ there.0
 
 pub returns-clause-past : goal.returns-clause-past
 returns-clause-past c =
     let s = c.in_ok-spelling.spelling in
     let there =
-    decimal_word c.self.inside.at s.end s.value c.self.inside.line.now c.in_ok-spelling.ensures.0 c.in_ok-spelling.ensures.1 c.in_ok-spelling.ensures.2 c.in_ok-spelling.ensures.3 in
+    decimal_word c.self.inside.at s.end s.value c.self.inside.line.now c.in_ok-spelling.ensures.0 c.in_ok-spelling.ensures.1
+    c.in_ok-spelling.ensures.2 c.in_ok-spelling.ensures.3 in
     there.1 ∙ ap rest c.self.view_is

@@ -1,0 +1,36 @@
+use Rattle.std.proofs.Common.{◌≡◌, ℕ, zero, suc, ◌<◌, Bool, true, false, ◌&&◌, not, ltb, ap, sym, ◌∙◌, get_or, arith}
+use Rattle.std.proofs.lemmas.List.{get_or_default}
+use Rattle.tick_policy.specs.declared.parts.TickParts.{TickParts}
+use Rattle.tick_policy.specs.Line.{is_waiting}
+use Rattle.tick_policy.specs.Parts.{is_slew}
+use Rattle.board_devices.specs.declared.parts.DeviceParts.{DeviceParts}
+use Rattle.board_devices.specs.Parts.{IsDevices, IsTimerLine}
+use Rattle.board_devices.specs.Places.{line_at, no_line}
+use Rattle.board_devices.specs.View.{parts_of}
+use Rattle.board_devices.proofs.devices.Devices.is_one_waiting.Goals as goal
+
+-- where the first timer's policy lets none wait, no timer's does
+no_timer : (d : DeviceParts) → IsDevices d → is_slew (line_at 2 d).policy ≡ false → (k : ℕ) → k < 8 → is_waiting (line_at (suc (suc k)) d) ≡ false
+no_timer d joined none k less = by_place (ltb k d.hpet.timers) (line_at (suc (suc k)) d) (joined.timer_lines k less)
+  where
+    by_place : (b : Bool) (l : TickParts) → IsTimerLine b (line_at 2 d).policy l → is_waiting l ≡ false
+    by_place true l same = ap (λ (b : Bool). b && (not l.up && ltb 0 l.counts.queue)) (ap is_slew same ∙ none)
+    by_place false l same = ap is_waiting same
+
+none : (d : DeviceParts) → IsDevices d → is_waiting (line_at 0 d) ≡ false → is_waiting (line_at 1 d) ≡ false → is_slew (line_at 2 d).policy ≡ false
+    → (k : ℕ) → k < 10 → is_waiting (line_at k d) ≡ false
+none d joined first second rest zero less = first
+none d joined first second rest (suc zero) less = second
+none d joined first second rest (suc (suc k)) less = no_timer d joined rest k (omega (arith, less))
+
+pub returns-else-is_slew : goal.returns-else-is_slew
+returns-else-is_slew c = λ e k less.
+    ap (λ (d : DeviceParts). is_waiting (line_at k d)) (sym c.self.view_is)
+    ∙ none (parts_of c.self.inside) c.self.invariant
+    (sym (c.is_waiting.ensures ∙ ap is_waiting (at 0 c.index-self-0.result (omega arith))) ∙ c.if-is_waiting.false)
+    (sym (c.is_waiting-2.ensures ∙ ap is_waiting (at 1 c.index-self-1.result (omega arith))) ∙ c.if-is_waiting-2.false)
+    (sym (c.is_slew.ensures ∙ ap is_slew c.policy.ensures ∙ ap (λ (l : TickParts). is_slew l.policy) (at 2 c.index-self-2.result (omega arith))) ∙ e)
+    k less
+  where
+    at : (k : ℕ) (l : TickParts) → k < 10 → get_or c.self.inside.ticks k l ≡ line_at k (parts_of c.self.inside)
+    at k l less = get_or_default c.self.inside.ticks k l no_line (omega (arith, less, c.self.invariant.places))
