@@ -117,6 +117,28 @@ static void ask_next_edge_by_timers(struct clockboard *board, uint64_t host, str
     reply->edge_count = 0;
 }
 
+/* No call, but all else that is done for one. */
+static void call_nothing(struct clockboard *board, uint64_t host, struct clockboard_reply *reply) {
+    (void)board;
+    reply->value[0] = host;
+    reply->edge_count = 0;
+}
+
+/* A tick of the 8254 each 10 ms, and its acknowledgement, on a board of its own, on which nothing else runs. */
+static struct clockboard ticking;
+
+static void acknowledge_and_tick(struct clockboard *board, uint64_t host, struct clockboard_reply *reply) {
+    static const uint8_t ports[][2] = {{0x43, 0x34}, {0x40, 0x9c}, {0x40, 0x2e}};
+    (void)board;
+    if (ticking.opaque[0] == 0) {
+        ticking = clockboard_blank();
+        for (size_t k = 0; k < sizeof ports / sizeof ports[0]; k++)
+            clockboard_port_write(&ticking, 0, host, ports[k][0], ports[k][1], reply);
+    }
+    clockboard_acknowledge(&ticking, 0, host, 0, reply);
+    clockboard_step(&ticking, 0, host + 5000000, reply);
+}
+
 /* A kind of call, each a number of nanoseconds after the last. `try` opens the board, so it comes last. */
 static const struct {
     const char *word;
@@ -124,12 +146,16 @@ static const struct {
     access_call *call;
     uint64_t gap;
 } rows[] = {
+    {"bare", "no call", call_nothing, 0},
     {"read", "port 40h, no time", read_port, 0},
+    {"later", "port 40h, 700 ns later", read_port, 700},
     {"hpet", "HPET main counter, no time", read_hpet, 0},
+    {"hpet-l", "HPET main counter, 700 ns later", read_hpet, 700},
     {"set", "HPET comparator set, no time", set_comparator, 0},
     {"config", "HPET timer configured, no time", configure_timer, 0},
     {"still", "step of no time", step, 0},
     {"step", "step of 700 ns", step, 700},
+    {"tick", "acknowledgement, step to a tick", acknowledge_and_tick, 10000000},
     {"ack", "acknowledgement, ticks waiting", acknowledge, 0},
     {"tsc", "TSC", read_tsc, 0},
     {"edge", "next edge, kept", ask_next_edge, 0},

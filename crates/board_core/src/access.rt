@@ -12,9 +12,11 @@ ghost use Rattle.std.specs.Prelude.{
   IfErr,
   OnOk,
   OnErr,
+  IsSome,
   Some,
   None,
 };
+ghost use Rattle.std.specs.Bool.{OnTrue, OnFalse};
 ghost use Rattle.std.specs.List.{All};
 ghost use Rattle.irq_edges.specs.Lines.{IsOfLine};
 ghost use Rattle.board_types.specs.Legal.{is_legal};
@@ -23,7 +25,7 @@ ghost use Rattle.board_core.specs.Time.{now_of};
 ghost use Rattle.board_core.specs.Access.{ran_to, reply_of, after_access};
 ghost use Rattle.board_core.specs.Refusals.{refusal_of};
 ghost use Rattle.board_core.specs.Outcome.{IsAsked, IsOutcome};
-ghost use Rattle.board_core.specs.private.Calls.{CanRun, HasRun};
+ghost use Rattle.board_core.specs.private.Calls.{CanRun, HasRun, HasTaken, IsRefused};
 
 use crate::apics::run_apics;
 use crate::board::BoardState;
@@ -53,54 +55,76 @@ impl BoardState {
     }
 
     /// The same into a reply that its caller keeps, without edges and messages in it (`Reply::clear`). It copies no reply,
-    /// so it is the faster of the two. It holds code for each kind of access that guests make often: a small caller takes
-    /// all of it in, and a large one calls it.
+    /// so it is the faster of the two.
+    // A refusal is large: it is computed where an access wasn't taken, and given back by no other call.
     #[inline(always)]
     pub fn answer(&mut self, cpu: u8, h: u64, a: Access, reply: &mut Reply) -> Result<(), Refusal>
         requires { IsAsked self.old cpu a reply.old }
         ensures { IsOutcome self.old cpu h a result self.new reply.old reply.new }
     {
-        // In each of these arms the compiler knows the kind, and leaves out what the others need.
-        match a {
-            Access::PortIn { port } => self.answer_known(cpu, h, Access::PortIn { port }, reply),
-            Access::HpetRead { offset, width } => {
-                self.answer_known(cpu, h, Access::HpetRead { offset, width }, reply)
-            }
-            Access::PortOut { port, byte } => {
-                self.answer_known(cpu, h, Access::PortOut { port, byte }, reply)
-            }
-            Access::Ack { line } => self.answer_known(cpu, h, Access::Ack { line }, reply),
-            Access::MsrRead { msr } => self.answer_known(cpu, h, Access::MsrRead { msr }, reply),
-            Access::Step => self.answer_known(cpu, h, Access::Step, reply),
-            _ => self.answer_known(cpu, h, a, reply),
+        if self.take(cpu, h, a, reply) {
+            Ok(())
+        } else {
+            Err(self.refusal(cpu, h, a))
         }
     }
-}
 
-impl BoardState {
-    /// The same as `answer`, for a caller that itself spells out the kind of the access, as `Access::Step` or
-    /// `Access::PortIn { port }`: its code goes into the caller, and holds what that kind needs alone. With an access
-    /// of any kind it would ask for the kind at each step: call `answer` there.
+    /// Takes an access, unless it is refused. It holds code for each kind of access that guests make often: a small caller
+    /// takes all of it in, and a large one calls it.
     #[inline(always)]
-    pub(crate) fn answer_known(
-        &mut self,
-        cpu: u8,
-        h: u64,
-        a: Access,
-        reply: &mut Reply,
-    ) -> Result<(), Refusal>
+    fn take(&mut self, cpu: u8, h: u64, a: Access, reply: &mut Reply) -> bool
         requires { IsAsked self.old cpu a reply.old }
-        ensures { IsOutcome self.old cpu h a result self.new reply.old reply.new }
+        ensures taken { OnTrue result (HasTaken self.old cpu h a self.new reply.new) }
+        ensures left { OnFalse result (IsRefused self.old cpu h a self.new reply.old reply.new) }
+    {
+        // In each of these arms the compiler knows the kind, and leaves out what the others need.
+        match a {
+            Access::PortIn { port } => self.take_known(cpu, h, Access::PortIn { port }, reply),
+            Access::HpetRead { offset, width } => {
+                self.take_known(cpu, h, Access::HpetRead { offset, width }, reply)
+            }
+            Access::PortOut { port, byte } => {
+                self.take_known(cpu, h, Access::PortOut { port, byte }, reply)
+            }
+            Access::Ack { line } => self.take_known(cpu, h, Access::Ack { line }, reply),
+            Access::MsrRead { msr } => self.take_known(cpu, h, Access::MsrRead { msr }, reply),
+            Access::Step => self.take_known(cpu, h, Access::Step, reply),
+            _ => self.take_known(cpu, h, a, reply),
+        }
+    }
+
+    /// The same for a caller that itself spells out the kind of the access, as `Access::Step` or
+    /// `Access::PortIn { port }`: its code goes into the caller, and holds what that kind needs alone.
+    #[inline(always)]
+    fn take_known(&mut self, cpu: u8, h: u64, a: Access, reply: &mut Reply) -> bool
+        requires { IsAsked self.old cpu a reply.old }
+        ensures taken { OnTrue result (HasTaken self.old cpu h a self.new reply.new) }
+        ensures left { OnFalse result (IsRefused self.old cpu h a self.new reply.old reply.new) }
     {
         let to = match self.admit(cpu, h, a) {
             Ok(to) => to,
-            Err(refusal) => return Err(refusal),
+            Err(_refusal) => return false,
         };
         let looked = self.run_to(h, to, &mut reply.edges, &mut reply.bursts);
         let value = self.act(cpu, h, a, looked, &mut reply.edges);
         reply.value = value;
         reply.number = self.accesses;
-        Ok(())
+        true
+    }
+
+    /// Why an access is refused that is.
+    #[cold]
+    #[inline(never)]
+    fn refusal(&self, cpu: u8, h: u64, a: Access) -> Refusal
+        requires cpu { cpu < self.now.cpus }
+        requires legal { IsTrue (is_legal self.now.cpus self.now.format a) }
+        requires refused { IsSome (refusal_of self.now cpu h a) }
+        ensures { refusal_of self.now cpu h a ≡ Some result }
+    {
+        match self.admit(cpu, h, a) {
+            Err(refusal) => refusal,
+            Ok(_to) => unreachable!(),
+        }
     }
 }
 

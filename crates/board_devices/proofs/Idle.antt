@@ -1,12 +1,12 @@
 -- A line that no tick and no catch-up point moves.
 use Rattle.std.specs.Option.{is_some}
-use Rattle.std.proofs.Common.{◌≡◌, ℕ, zero, suc, ◌+◌, ◌%◌, ◌^◌, ◌<◌, Bool, true, false, cond, eqb, leb, ltb, ◌&&◌, ◌||◌}
+use Rattle.std.proofs.Common.{◌≡◌, ℕ, zero, suc, ◌%◌, ◌^◌, ◌<◌, Bool, true, false, cond, eqb, leb, ltb, ◌&&◌, ◌||◌}
 use Rattle.std.proofs.Common.{List, Option, Some, None, refl, ap, sym, ◌∙◌, inl, inr, arith}
 use Rattle.std.proofs.Math.Bool.{or-true}
-use Rattle.std.proofs.lemmas.Bool.{cases_lt, lt-ltb, le-ltb, lt-leb, true≢false}
+use Rattle.std.proofs.lemmas.Bool.{cases_lt, lt-ltb, lt-leb, true≢false}
 use Rattle.std.proofs.Math.Nat.{zero-div}
 use Rattle.clk_units.specs.Bits.{bit}
-use Rattle.clk_units.specs.Events.{CountsUp, first_at}
+use Rattle.clk_units.specs.Events.{first_at}
 use Rattle.hpet_comparator.specs.declared.stretch.Matches.{Matches}
 use Rattle.hpet_comparator.specs.Parts.{is_level, is_enabled}
 use Rattle.hpet_registers.specs.declared.hpet.TheConstants.{HPET_HZ}
@@ -15,9 +15,8 @@ use Rattle.hpet_registers.specs.Parts.{timer_at}
 use Rattle.hpet_registers.specs.Outputs.{has_ticks, is_message}
 use Rattle.tick_policy.specs.declared.parts.TickParts.{TickParts}
 use Rattle.tick_policy.specs.Line.{is_waiting, ticked_times}
-use Rattle.tick_policy.specs.Stretch.{ticked_where, caught_up_where, line_after, line_end, is_caught, up_from}
+use Rattle.tick_policy.specs.Stretch.{caught_up_where, line_end, is_caught, up_from}
 use Rattle.tick_policy.proofs.Ticks.{ticked_times-zero, caught_up-still, is_waiting-up}
-use Rattle.tick_policy.proofs.Stretches.{line_after-zero, line_after-suc}
 use Rattle.board_devices.specs.declared.stretch.Ticks.{Ticks}
 use Rattle.board_devices.specs.declared.stretch.Span.{Span}
 use Rattle.board_devices.specs.private.Stretch.{counted, moves, end_of, flag_from, output_up, slot_of, with_rise, slots_from}
@@ -63,21 +62,6 @@ end-early point to count b first l early =
     later : (f : Option ℕ) → leb point to ≡ false → is_caught point to f ≡ false
     later None e = e
     later (Some at) e = ap (λ (c : Bool). c && ltb point at) e
-
--- a line that doesn't wait, and that no tick reaches, stays as it is over catch-up points
-pub line_after-idle : (ticks : ℕ → ℕ) (slew t n : ℕ) (l : TickParts) → CountsUp ticks → is_waiting l ≡ false → ticks n ≡ 0 → line_after ticks slew t n l ≡ l
-line_after-idle ticks slew t zero l up idle none = line_after-zero ticks slew t l
-line_after-idle ticks slew t (suc n) l up idle none =
-    let before : ticks n ≡ 0 = omega (arith, none, up.keeps n) in
-    line_after-suc ticks slew t n l
-    ∙ ap (λ (k : TickParts). caught_up_where (eqb ((t + n + 1) % slew) 0) (ticked_where (ltb (ticks n) (ticks (suc n))) k))
-    (line_after-idle ticks slew t n l up idle before)
-    ∙ ap (λ (b : Bool). caught_up_where (eqb ((t + n + 1) % slew) 0) (ticked_where b l)) (le-ltb (ticks n) (ticks (suc n)) (omega (arith, none, before)))
-    ∙ by_point (eqb ((t + n + 1) % slew) 0)
-  where
-    by_point : (b : Bool) → caught_up_where b l ≡ l
-    by_point true = caught_up-still l idle
-    by_point false = refl
 
 pub end-unseen : (point to count : ℕ) (b : Bool) (first : Option ℕ) (l : TickParts) → to < point → count ≡ 0 → end_of point to (counted b b count first) l ≡ l
 end-unseen point to count true first l early none = end-early point to count true first l early ∙ no_ticks count l none

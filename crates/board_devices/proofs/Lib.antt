@@ -5,6 +5,9 @@ pub mod Product
 pub mod Times
 pub mod Counts
 pub mod Advance
+pub mod FirstOf
+pub mod Settled
+pub mod Ahead
 pub mod Edges
 pub mod OfLines
 pub mod Sends
@@ -17,6 +20,7 @@ pub mod Upgrade
 pub mod Still
 pub mod Idle
 pub mod QuietRuns
+pub mod TickRuns
 pub mod QuietWrites
 pub mod AckLevels
 pub mod AckEdges

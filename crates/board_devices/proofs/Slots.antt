@@ -9,7 +9,7 @@ use Rattle.hpet_registers.specs.Parts.{IsHpet, IsPlace, no_timer, timer_at, is_l
 use Rattle.board_devices.specs.private.Stretch.{either_from, slot_of_route, slot_of, with_rise, slots_from, routed_from}
 use Rattle.board_devices.proofs.Places.{all_eight}
 
-either-none : (x : Option ℕ) → either_from x None ≡ x
+pub either-none : (x : Option ℕ) → either_from x None ≡ x
 unfolding either_from
 either-none None = refl
 either-none (Some a) = refl
@@ -138,7 +138,7 @@ module _ (h : HpetParts) (us : List (Option ℕ)) (f : ℕ → Option ℕ) (pit 
       ∙ ap (λ (b : Bool). either_from (routed_from line k h us) (cond (b && not (is_legacy h && ltb k 2)) (get_or us k None) None)) other
       ∙ either-none (routed_from line k h us)
 
-  all-timers : (line : ℕ) → eqb 0 line ≡ false → IsHpet h → routed_from line h.timers h us ≡ routed_from line 8 h us
+  pub all-timers : (line : ℕ) → eqb 0 line ≡ false → IsHpet h → routed_from line h.timers h us ≡ routed_from line 8 h us
   all-timers line other valid = all_eight (λ n. routed_from line n h us) h.timers valid.timers (λ k gone small. absent line k other valid gone small)
 
   -- after all timers

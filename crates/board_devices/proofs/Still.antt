@@ -1,5 +1,6 @@
--- A stretch that moves no line: no update, ticks that find their lines up alone, and no catch-up point that finds a line that waits.
-use Rattle.std.proofs.Common.{◌≡◌, ℕ, zero, suc, ◌+◌, ◌<◌, ◌≤◌, Bool, true, false, cond, ltb, eqb, ◌&&◌, ◌||◌, not, List, [], ◌++◌}
+-- A stretch that moves no line, or only that of the 8254: no update, ticks that find their lines up alone, and no catch-up point
+-- that finds a line that waits.
+use Rattle.std.proofs.Common.{◌≡◌, ℕ, zero, suc, ◌+◌, ◌<◌, ◌≤◌, Bool, true, false, cond, ltb, eqb, ◌&&◌, ◌||◌, not, List, [], ◌∷◌, ◌++◌}
 use Rattle.std.proofs.Common.{◌⊎◌, refl, ap, sym, ◌∙◌, inl, inr, arith}
 use Rattle.pit_readback.specs.declared.TheConstants.{PIT_HZ}
 use Rattle.rtc_registers.specs.declared.TheConstants.{RTC_HZ}
@@ -35,8 +36,8 @@ use Rattle.hpet_registers.proofs.Product.{CountsUp-matches_of}
 use Rattle.tick_policy.specs.declared.parts.TickParts.{TickParts}
 use Rattle.tick_policy.specs.Line.{ticked_times, is_waiting}
 use Rattle.tick_policy.specs.Stretch.{IsFirstPoint, line_after}
-use Rattle.tick_policy.proofs.Ticks.{ticked_times-zero}
-use Rattle.tick_policy.proofs.Stretches.{line_after-early, line_after-up}
+use Rattle.tick_policy.proofs.Ticks.{ticked_times-zero, caught_up-still}
+use Rattle.tick_policy.proofs.Stretches.{line_after-early, line_after-late, line_after-up}
 use Rattle.board_devices.specs.declared.parts.DeviceParts.{DeviceParts}
 use Rattle.board_devices.specs.Places.{each, line_at, no_line}
 use Rattle.board_devices.specs.Nanosecond.{counts_rtc, sees_point}
@@ -44,22 +45,23 @@ use Rattle.board_devices.specs.Lines.{output_of, drives, routed, levels}
 use Rattle.board_devices.specs.Run.{run, onward}
 use Rattle.board_devices.specs.private.Pulses.{is_unheard}
 use Rattle.board_devices.specs.private.Stretch.{source, line_run, flagged_where, parted}
-use Rattle.board_devices.proofs.Idle.{line_after-idle}
 use Rattle.board_devices.proofs.Unheard.{irqf-unheard}
 use Rattle.board_devices.proofs.Places.{each-at, same_six}
 use Rattle.board_devices.proofs.Product.{Sound, run-parted, same_parts, flag-same, flag-none}
 use Rattle.board_devices.proofs.Advance.{counts-where}
 
-pub record Quiet (d : DeviceParts) (t n c : ℕ) : Type 0 where
+-- of the lines those from place `low` on stay as they are, which is 0, or 1 where that of the 8254 may go up
+pub record QuietFrom (low : ℕ) (d : DeviceParts) (t n c : ℕ) : Type 0 where
+  pub few : low ≤ 1
   pub sound : Sound d
   pub point : IsFirstPoint d.slew_ns t c
-  -- no catch-up point comes, or one that finds the line as it leaves it
-  pub early : (k : ℕ) → k < 10 → (n < c) ⊎ ((is_waiting (line_at k d) ≡ false) × (source d t k n ≡ 0))
+  -- no catch-up point comes, or one that finds no line that waits
+  pub early : (n < c) ⊎ ((k : ℕ) → k < 10 → is_waiting (line_at k d) ≡ false)
   -- the MC146818 has no event, or nobody hears it
   pub clock : (is_unheard d.rtc ≡ true)
       ⊎ ((ticks_in (divider_of d.rtc) (pulses_from RTC_HZ t n) ≡ 0) × (updates_in (divider_of d.rtc) (pulses_from RTC_HZ t n) ≡ 0))
   -- ticks find their line up, and no timer of level type that is enabled matches
-  pub found : (k : ℕ) → k < 10 → 0 < source d t k n → (line_at k d).up ≡ true
+  pub found : (k : ℕ) → low ≤ k → k < 10 → 0 < source d t k n → (line_at k d).up ≡ true
   pub level : (k : ℕ) → k < 8 → is_level (timer_at k d.hpet) ≡ true → is_enabled (timer_at k d.hpet) ≡ true
       → matches_of k d.hpet (pulses_from HPET_HZ t n) ≡ 0
 
@@ -78,22 +80,38 @@ flag-again true true ticks r valid e = flag-same true r valid e
 flag-again true false ticks r valid e = flag-none r
 flag-again false pf ticks r valid e = flag-none r
 
-module _ {d : DeviceParts} {t n c : ℕ} (quiet : Quiet d t n c) where
-  line_after-still : (k : ℕ) → k < 10 → (j : ℕ) → j ≤ n → (line_after (source d t k) d.slew_ns t j (line_at k d)).up ≡ (line_at k d).up
-  line_after-still k less j le = elim (cases_lt 0 (source d t k n)) [
-    | inl some ↦ line_after-up (source d t k) d.slew_ns t j (line_at k d) (quiet.found k less some) ∙ sym (quiet.found k less some)
+-- the levels, by that of the line of the 8254
+abbrev pub levels_with : Bool → DeviceParts → List Bool
+levels_with up d =
+    cond (is_legacy d.hpet) (output_of 0 d) up ∷ cond (is_legacy d.hpet) (output_of 1 d) (irqf_of d.rtc)
+    ∷ routed 20 8 d ∷ routed 21 8 d ∷ routed 22 8 d ∷ routed 23 8 d ∷ []
+
+module _ {low : ℕ} {d : DeviceParts} {t n c : ℕ} (quiet : QuietFrom low d t n c) where
+  -- catch-up points leave the lines alone: they have their ticks
+  pub line_after-counted : (k : ℕ) → k < 10 → (j : ℕ) → j ≤ n
+      → line_after (source d t k) d.slew_ns t j (line_at k d) ≡ ticked_times (source d t k j) (line_at k d)
+  line_after-counted k less j le = elim (cases_lt j c) [
+    | inl before ↦ line_after-early (source d t k) d.slew_ns t c j (line_at k d) (counts-source d t k) quiet.point (inl before)
+    | inr past ↦ elim (cases_lt 0 (source d t k c)) [
+      | inl some ↦ line_after-early (source d t k) d.slew_ns t c j (line_at k d) (counts-source d t k) quiet.point (inr some)
+      | inr few ↦ line_after-late (source d t k) d.slew_ns t c j (line_at k d) (counts-source d t k) quiet.point past (omega (arith, few))
+          ∙ ap (ticked_times (source d t k j)) (caught_up-still (line_at k d) (idle past))
+    ]
+  ]
+    where
+      idle : c ≤ j → is_waiting (line_at k d) ≡ false
+      idle past = elim quiet.early [ inl before ↦ absurd (omega (arith, before, le, past)) | inr none ↦ none k less ]
+
+  line_after-still : (k : ℕ) → low ≤ k → k < 10 → (j : ℕ) → j ≤ n → (line_after (source d t k) d.slew_ns t j (line_at k d)).up ≡ (line_at k d).up
+  line_after-still k inside less j le = elim (cases_lt 0 (source d t k n)) [
+    | inl some ↦ line_after-up (source d t k) d.slew_ns t j (line_at k d) (quiet.found k inside less some) ∙ sym (quiet.found k inside less some)
     | inr few ↦
         let none : source d t k j ≡ 0 = omega (arith, CountsUp-mono (source d t k) (counts-source d t k) j n le) in
-        ap (λ (l : TickParts). l.up) (elim (quiet.early k less) [
-          | inl before ↦ line_after-early (source d t k) d.slew_ns t c j (line_at k d) (counts-source d t k) quiet.point (inl (omega (arith, before, le)))
-              ∙ ap (λ (m : ℕ). ticked_times m (line_at k d)) none
-              ∙ ticked_times-zero (line_at k d)
-          | inr idle ↦ line_after-idle (source d t k) d.slew_ns t j (line_at k d) (counts-source d t k) idle.0 none
-        ])
+        ap (λ (l : TickParts). l.up) (line_after-counted k less j le ∙ ap (λ (m : ℕ). ticked_times m (line_at k d)) none ∙ ticked_times-zero (line_at k d))
   ]
 
-  line_run-still : (k : ℕ) → k < 10 → (j : ℕ) → j ≤ n → (line_run d t j k (line_at k d)).up ≡ (line_at k d).up
-  line_run-still k less j le = seen (sees_point d k) (line_after (source d t k) d.slew_ns t j (line_at k d)) (line_after-still k less j le)
+  line_run-still : (k : ℕ) → low ≤ k → k < 10 → (j : ℕ) → j ≤ n → (line_run d t j k (line_at k d)).up ≡ (line_at k d).up
+  line_run-still k inside less j le = seen (sees_point d k) (line_after (source d t k) d.slew_ns t j (line_at k d)) (line_after-still k inside less j le)
     where
       seen : (b : Bool) (l : TickParts) → l.up ≡ (line_at k d).up → (cond b l (line_at k d)).up ≡ (line_at k d).up
       seen true l e = e
@@ -103,7 +121,7 @@ module _ {d : DeviceParts} {t n c : ℕ} (quiet : Quiet d t n c) where
       ≡ rtc_pulsed_times (pulses_from RTC_HZ t j) d.rtc
   flag-still j le =
       ap (λ (b : Bool). flagged_where (counts_rtc d && b) (rtc_pulsed_times (pulses_from RTC_HZ t j) d.rtc))
-      (line_run-still 1 (omega arith) j le ∙ quiet.sound.joined.flag)
+      (line_run-still 1 quiet.few (omega arith) j le ∙ quiet.sound.joined.flag)
       ∙ flag-again (counts_rtc d) (pf_of d.rtc) (ticks_in (divider_of d.rtc) (pulses_from RTC_HZ t j)) (rtc_pulsed_times (pulses_from RTC_HZ t j) d.rtc)
       (IsRtc-rtc_pulsed_times (pulses_from RTC_HZ t j) d.rtc quiet.sound.rtc)
       (pf_of-rtc_pulsed_times (pulses_from RTC_HZ t j) d.rtc quiet.sound.rtc)
@@ -123,10 +141,13 @@ module _ {d : DeviceParts} {t n c : ℕ} (quiet : Quiet d t n c) where
   parted-still j le = same_parts d refl (flag-still j le) refl refl
 
   -- no level changes
-  line-still : (j k : ℕ) → j ≤ n → k < 10 → (line_at k (moved j)).up ≡ (line_at k d).up
-  line-still j k le less =
+  line-moved : (j k : ℕ) → k < 10 → (line_at k (moved j)).up ≡ (line_run d t j k (line_at k d)).up
+  line-moved j k less =
       ap (λ (l : TickParts). l.up) (each-at (line_run d t j) 0 k d.ticks no_line (omega (arith, less, quiet.sound.joined.places)))
-      ∙ ap (λ (i : ℕ). (line_run d t j i (line_at k d)).up) (omega arith) ∙ line_run-still k less j le
+      ∙ ap (λ (i : ℕ). (line_run d t j i (line_at k d)).up) (omega arith)
+
+  line-still : (j k : ℕ) → j ≤ n → low ≤ k → k < 10 → (line_at k (moved j)).up ≡ (line_at k d).up
+  line-still j k le inside less = line-moved j k less ∙ line_run-still k inside less j le
 
   config-still : (j k : ℕ) → (timer_at k (hpet_pulsed_times (pulses_from HPET_HZ t j) d.hpet)).config ≡ (timer_at k d.hpet).config
   config-still j k = timer_config-hpet_pulsed_times k (pulses_from HPET_HZ t j) d.hpet
@@ -164,7 +185,7 @@ module _ {d : DeviceParts} {t n c : ℕ} (quiet : Quiet d t n c) where
       ∙ ap (λ (m : Bool). cond (is_level (timer_at k d.hpet)) (bit k d.hpet.status && is_enabled (timer_at k d.hpet))
       (not m && (line_at (suc (suc k)) (moved j)).up)) (is_message-hpet_pulsed_times k (pulses_from HPET_HZ t j) d.hpet)
       ∙ ap (λ (b : Bool). cond (is_level (timer_at k d.hpet)) (bit k d.hpet.status && is_enabled (timer_at k d.hpet)) (not (is_message k d.hpet) && b))
-      (line-still j (suc (suc k)) le (omega arith))
+      (line-still j (suc (suc k)) le (omega (arith, quiet.few)) (omega arith))
 
   routed-still : (line m j : ℕ) → j ≤ n → m ≤ 8 → routed line m (moved j) ≡ routed line m d
   routed-still line zero j le few = refl
@@ -204,12 +225,11 @@ module _ {d : DeviceParts} {t n c : ℕ} (quiet : Quiet d t n c) where
     | inr none ↦ irqf-none j le none.0 none.1
   ]
 
-  moved-levels : (j : ℕ) → j ≤ n → levels (moved j) ≡ levels d
+  moved-levels : (j : ℕ) → j ≤ n → levels (moved j) ≡ levels_with (line_at 0 (moved j)).up d
   unfolding levels
   moved-levels j le = same_six
       (ap (λ (l : Bool). cond l (output_of 0 (moved j)) (line_at 0 (moved j)).up) (legacy-still j)
-      ∙ ap (λ (b : Bool). cond (is_legacy d.hpet) b (line_at 0 (moved j)).up) (output-still j 0 le (omega arith))
-      ∙ ap (cond (is_legacy d.hpet) (output_of 0 d)) (line-still j 0 le (omega arith)))
+      ∙ ap (λ (b : Bool). cond (is_legacy d.hpet) b (line_at 0 (moved j)).up) (output-still j 0 le (omega arith)))
       (ap (λ (l : Bool). cond l (output_of 1 (moved j)) (irqf_of (moved j).rtc)) (legacy-still j)
       ∙ ap (λ (b : Bool). cond (is_legacy d.hpet) b (irqf_of (moved j).rtc)) (output-still j 1 le (omega arith))
       ∙ ap (λ (b : Bool). cond (is_legacy d.hpet) (output_of 1 d) b) (irqf-still j le))
@@ -218,8 +238,15 @@ module _ {d : DeviceParts} {t n c : ℕ} (quiet : Quiet d t n c) where
       (routed-still 22 8 j le (omega arith))
       (routed-still 23 8 j le (omega arith))
 
-  pub levels-still : (j : ℕ) → j ≤ n → levels (run t j d).state ≡ levels d
-  levels-still j le = ap levels (run-parted t j d quiet.sound ∙ parted-still j le) ∙ moved-levels j le
+  -- .. but that of the line of the 8254
+  pub levels-first : (j : ℕ) → j ≤ n → levels (run t j d).state ≡ levels_with (line_run d t j 0 (line_at 0 d)).up d
+  levels-first j le =
+      ap levels (run-parted t j d quiet.sound ∙ parted-still j le) ∙ moved-levels j le
+      ∙ ap (λ (b : Bool). levels_with b d) (line-moved j 0 (omega arith))
+
+  pub levels-still : low ≡ 0 → (j : ℕ) → j ≤ n → levels (run t j d).state ≡ levels d
+  unfolding levels
+  levels-still all j le = levels-first j le ∙ ap (λ (b : Bool). levels_with b d) (line_run-still 0 (omega (arith, all)) (omega arith) j le)
 
 -- so there is no edge
 pub edges-still : (d : DeviceParts) (t to : ℕ) → ((j : ℕ) → t + j ≤ to → levels (run t j d).state ≡ levels d) → (m : ℕ) → t + m ≤ to → (run t m d).edges ≡ []

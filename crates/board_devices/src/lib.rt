@@ -23,6 +23,7 @@ mod found_up;
 mod levels;
 mod lines;
 mod messages;
+mod next_edge;
 mod parts;
 mod port_reads;
 mod pulse_counts;

@@ -12,7 +12,7 @@ use rtc_registers::Rtc;
 use tick_policy::TickLine;
 
 /// Whether the tick line at a place is up.
-fn up_at(ticks: &[TickLine; 10], k: usize) -> bool
+pub(crate) fn up_at(ticks: &[TickLine; 10], k: usize) -> bool
     requires { k < 10 }
     ensures { result ≡ (slice_index_or ticks.now k no_line).up }
 {

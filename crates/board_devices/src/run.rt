@@ -18,10 +18,6 @@ ghost use Rattle.std.specs.Prelude.{
   None,
   if◌then◌else◌,
 };
-ghost use Rattle.clk_units.specs.Events.{IsFirst};
-ghost use Rattle.rtc_cycle.specs.Divider.{ticks_in, updates_in};
-ghost use Rattle.rtc_registers.specs.Pulses.{rtc_pulsed_times, alarms_in};
-ghost use Rattle.rtc_registers.specs.Registers.{divider_of};
 ghost use Rattle.irq_edges.specs.declared.edges.TheConstants.{EDGE_PLACES};
 ghost use Rattle.std.specs.List.{All};
 ghost use Rattle.irq_edges.specs.Lines.{line_numbers, level_of, IsOfLine};
@@ -29,10 +25,15 @@ ghost use Rattle.irq_edges.specs.Rises.{IsNextRise};
 ghost use Rattle.board_devices.specs.Rises.{one_if, lifts};
 ghost use Rattle.board_devices.specs.Places.{line_at};
 ghost use Rattle.board_devices.specs.Lines.{levels};
-ghost use Rattle.board_devices.specs.Run.{IsStretch, run, IsNextEdge};
+ghost use Rattle.board_devices.specs.Run.{IsStretch, run};
 ghost use Rattle.board_devices.specs.Parts.{IsDevices};
-ghost use Rattle.board_devices.specs.private.Pulses.{AreHeard, is_unheard, left_pulses};
-ghost use Rattle.board_devices.specs.private.Runs.{HasAdvanced, IsEdgeBy, passed};
+ghost use Rattle.board_devices.specs.private.Pulses.{
+  ArePulses,
+  AreHeard,
+  is_unheard,
+  left_pulses,
+};
+ghost use Rattle.board_devices.specs.private.Runs.{HasAdvanced, passed, rise_edges};
 
 use crate::clock::{counts_rtc, is_unheard, set_flag};
 use crate::devices::Devices;
@@ -41,26 +42,25 @@ use crate::levels::{front_times, irq_up, shown_of};
 use crate::pulse_counts::{PulseCounts, pulse_counts};
 use crate::quiet::pulse_hpet;
 use crate::stretch::{Span, count_ticks, run_clock, run_pit, run_timers};
-use clk_units::RANGE_NS;
 use hpet_comparator::Matches;
-use irq_edges::{EdgeList, emit, next_rise};
-use rtc_cycle::CycleEvents;
-use rtc_registers::{Rtc, RtcEvents};
+use irq_edges::{Edge, EdgeList, emit};
+use rtc_registers::Rtc;
 
 impl Devices {
-    /// Runs from nanosecond `from` to `to`. Answers whether something came that could move a line,
-    /// and then puts into `times` from when on each line is up.
-    // Most stretches bring nothing: a frame of its own would cost as much as what is done here.
+    /// Runs from nanosecond `from` to `to`, by the pulses of the stretch. Answers whether something came
+    /// that could move a line, and then puts into `times` from when on each line is up.
     #[inline(always)]
-    fn advance(&mut self, from: u64, to: u64, times: &mut [Option<u64>; 6]) -> bool
-        requires { IsStretch from to self.old }
+    fn advance(
+        &mut self,
+        from: u64,
+        to: u64,
+        pulses: PulseCounts,
+        times: &mut [Option<u64>; 6],
+    ) -> bool
+        requires stretch { IsStretch from to self.old }
+        requires pulses { ArePulses from to pulses }
         ensures { HasAdvanced from to self.old self.new result times.new }
     {
-        let pulses = pulse_counts(from, to);
-        if self.is_quiet(from, to, pulses) {
-            self.pass(from, to, pulses);
-            return false;
-        }
         let heard = heard_counts(&self.rtc, pulses);
         let moved = self.advance_by(from, to, heard, times);
         self.rtc.pass(pulses.rtc - heard.rtc);
@@ -91,7 +91,7 @@ impl Devices {
         let reach = pulse_hpet(&mut self.hpet, pulses.hpet, &mut matches);
         let rises = self.pit.pulses(pulses.pit);
         let shown = shown_of(&self.rtc);
-        let events = clock_pulses(&mut self.rtc, pulses.rtc);
+        let events = self.rtc.pulses(pulses.rtc);
         if to < point
             && brought_nothing(&events)
             && finds_up(&self.ticks, &self.hpet, legacy, rises, reach, &matches)
@@ -131,8 +131,13 @@ impl Devices {
             + one_if (level_of line_numbers (levels self.old) n)
             ≡ one_if (level_of line_numbers (levels self.new) n) }
     {
+        let pulses = pulse_counts(from, to);
+        if self.is_quiet_beside_pit(from, to, pulses) {
+            let rise = self.run_ticks(from, to, pulses);
+            return push_rise(rise, edges);
+        }
         let mut times = [None; 6];
-        if !self.advance(from, to, &mut times) {
+        if !self.advance(from, to, pulses, &mut times) {
             return false;
         }
         if !goes_up(&times, from) {
@@ -141,44 +146,7 @@ impl Devices {
         emit(&times, from, to, edges);
         true
     }
-
-    /// The first nanosecond after `now` at which a line changes if no access comes, below 2^59.
-    // Most boards have an edge soon. Over the whole range a clock that is heard has as many updates as there are seconds.
-    pub fn next_edge(&self, now: u64) -> Option<u64>
-        requires range { now < 2 ^ 59 }
-        requires room { (k : ℕ) → k < 10 → (line_at k self.now).counts.due
-            + (RANGE_NS - 1 - now) < 2 ^ 63 }
-        ensures { IsNextEdge now self.now result }
-    {
-        let soon = (now + SOON_NS).min(RANGE_NS - 1);
-        match self.edge_by(now, soon) {
-            Some(edge) => Some(edge),
-            None => self.edge_by(now, RANGE_NS - 1),
-        }
-    }
-
-    /// The first after `now` and up to `to`.
-    fn edge_by(&self, now: u64, to: u64) -> Option<u64>
-        requires { IsStretch now to self.now }
-        ensures { IsEdgeBy now to self.now result }
-    {
-        let _clock = self.rtc.parts();
-        let pulses = pulse_counts(now, to);
-        if self.is_quiet(now, to, pulses) {
-            return None;
-        }
-        let heard = heard_counts(&self.rtc, pulses);
-        let mut copy = *self;
-        let mut times = [None; 6];
-        if !copy.advance_by(now, to, heard, &mut times) {
-            return None;
-        }
-        next_rise(&times, now, to)
-    }
 }
-
-/// How far an edge is looked for at first (own).
-const SOON_NS: u64 = 1 << 26;
 
 /// The pulses that a run takes: without those of a clock that nobody hears.
 #[inline(always)]
@@ -192,34 +160,25 @@ fn heard_counts(rtc: &Rtc, pulses: PulseCounts) -> PulseCounts
     }
 }
 
-/// No event of the MC146818.
-const NO_EVENTS: RtcEvents = RtcEvents {
-    cycle: CycleEvents {
-        ticks: 0,
-        first_tick: None,
-        updates: 0,
-        first_update: None,
-    },
-    first_alarm: None,
-};
-
-/// Lets `n` pulses of the crystal pass. Most stretches are shorter than its 30,517 ns, and bring
-/// none.
+/// Appends the edge of line 0 that goes up at a time, where there is one. Answers whether there is.
 #[inline(always)]
-fn clock_pulses(rtc: &mut Rtc, n: u64) -> RtcEvents
-    ensures state { rtc.new ≡ rtc_pulsed_times n rtc.old }
-    ensures ticks { result.cycle.ticks ≡ ticks_in (divider_of rtc.old) n }
-    ensures few_ticks { result.cycle.ticks ≤ n }
-    ensures first_tick { IsFirst (ticks_in (divider_of rtc.old)) n result.cycle.first_tick }
-    ensures updates { result.cycle.updates ≡ updates_in (divider_of rtc.old) n }
-    ensures few_updates { result.cycle.updates ≤ n }
-    ensures first_update { IsFirst (updates_in (divider_of rtc.old)) n result.cycle.first_update }
-    ensures first_alarm { IsFirst (alarms_in rtc.old) n result.first_alarm }
+fn push_rise(rise: Option<u64>, edges: &mut EdgeList) -> bool
+    requires { length edges.old < EDGE_PLACES }
+    ensures edges { edges.new ≡ edges.old ++ rise_edges rise }
+    ensures still { result ≡ false → edges.new ≡ edges.old }
+    ensures few { length edges.new ≤ length edges.old + 1 }
 {
-    if n == 0 {
-        return NO_EVENTS;
+    match rise {
+        Some(at) => {
+            edges.push(Edge {
+                at,
+                line: 0,
+                up: true,
+            });
+            true
+        }
+        None => false,
     }
-    rtc.pulses(n)
 }
 
 /// Whether a line goes up after `from`, by the times from which on the lines are up.

@@ -12,11 +12,11 @@ use std::marker::Model;
 use std::mem::size_of;
 
 /// The number of this binary interface: it goes up where a struct or a call changes.
-pub const ABI: u32 = 7;
+pub const ABI: u32 = 8;
 
 /// What the first word of each board holds: 'CLKBRDC' and the digit of `ABI`, the lowest byte first. So memory that holds
 /// a board of another interface holds none of this.
-pub(crate) const SEAL: u64 = 0x3743_4452_424b_4c43;
+pub(crate) const SEAL: u64 = 0x3843_4452_424b_4c43;
 
 /// The next edge that a board keeps: where `known`, what `clockboard_next_edge` answers, and else 0.
 #[derive(Clone, Copy)]

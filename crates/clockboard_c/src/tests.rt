@@ -6,7 +6,7 @@ use std::test::Fail;
 /// `CLOCKBOARD_SIZE` and `CLOCKBOARD_REPLY_SIZE` of c/clockboard.h.
 #[test]
 fn sizes_of_the_header(rt: HostRuntime) -> Result<(), Fail> {
-    assert_eq!(rt; clockboard_size(), 9_416);
+    assert_eq!(rt; clockboard_size(), 9_424);
     assert_eq!(rt; clockboard_reply_size(), 768);
     Ok(())
 }

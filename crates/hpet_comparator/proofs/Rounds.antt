@@ -1,13 +1,13 @@
 -- Many pulses of a timer at once: from one match to the next, and over any stretch.
 use Rattle.std.proofs.Common.{◌≡◌, ℕ, zero, suc, ◌+◌, ◌-◌, ◌*◌, ◌/◌, ◌%◌, ◌^◌, ◌<◌, ◌≤◌, Bool, true, false, cond, ◌&&◌, ltb, Some, refl, ap, sym, ◌∙◌}
-use Rattle.std.proofs.Common.{subst, inl, inr, arith, IsTrue}
+use Rattle.std.proofs.Common.{subst, inl, inr, arith, IsTrue, ◌↔◌}
 use Rattle.std.proofs.lemmas.Bool.{cases_lt, lt-ltb, le-ltb, eq-eqb, ne_eqb, eqb-true}
 use Rattle.std.proofs.lemmas.Nat.{mod_below, div-add-mod'}
 use Rattle.clk_units.specs.Events.{IsFirst}
 use Rattle.hpet_comparator.specs.Counter.{counter_after}
 use Rattle.hpet_comparator.specs.declared.parts.TimerParts.{TimerParts}
 use Rattle.hpet_comparator.specs.Parts.{IsTimer, modulus, is_32_bit, is_periodic}
-use Rattle.hpet_comparator.specs.Stretch.{matches_at, pulsed, pulsed_times, matches_in, spacing_of}
+use Rattle.hpet_comparator.specs.Stretch.{matches_at, pulsed, pulsed_times, matches_in, spacing_of, pulses_before}
 use Rattle.hpet_comparator.specs.private.Rounds.{IsDue, advanced}
 use Rattle.hpet_comparator.proofs.Writes.{modulus-pos, below}
 
@@ -245,3 +245,42 @@ pulsed_times-advanced c d n t valid h = elim (cases_lt n d) [
       (matches_in c t (d + (n - d)) ≡ suc ((n - d) / spacing_of t)) = from_due c d (n - d) t valid h in
       subst (λ (m : ℕ). pulsed_times c m t ≡ advanced (matches_in c t m) t) e (some.0 ∙ ap (λ (q : ℕ). advanced q t) (sym some.1))
 ]
+
+-- ---- the pulses before the next match
+
+-- the match is due at the pulse after them ..
+due-before : (b : Bool) (c r comparator : ℕ) → comparator < cond b (2 ^ 32) (2 ^ 64)
+    → r ≡ (comparator + (cond b (2 ^ 32) (2 ^ 64) - 1 - c % cond b (2 ^ 32) (2 ^ 64))) % cond b (2 ^ 32) (2 ^ 64)
+    → (r + 1 ≤ cond b (2 ^ 32) (2 ^ 64)) × ((c + (r + 1)) % cond b (2 ^ 32) (2 ^ 64) ≡ comparator)
+due-before true c r comparator h e = (omega arith, omega arith)
+due-before false c r comparator h e = (omega arith, omega arith)
+
+pub IsDue-before : (c r : ℕ) (t : TimerParts) → IsTimer t → r ≡ pulses_before c t → IsDue c t (r + 1)
+unfolding pulses_before
+IsDue-before c r t valid e =
+    let due : (r + 1 ≤ modulus t) × ((c + (r + 1)) % modulus t ≡ t.comparator) = due-before (is_32_bit t) c r t.comparator valid.comparator e in
+    record { ahead = omega arith; within = due.0; reaches = due.1 }
+
+-- .. so that a stretch has no match exactly where it is no longer than they are
+pub matches_in-before : (c r n : ℕ) (t : TimerParts) → IsTimer t → r ≡ pulses_before c t → (n ≤ r) ↔ (matches_in c t n ≡ 0)
+matches_in-before c r n t valid e =
+    let due : IsDue c t (r + 1) = IsDue-before c r t valid e in (
+      λ inside. (early c (r + 1) n t due (omega arith)).1,
+      λ none. elim (cases_lt r n) [
+        | inl past ↦
+            let some : matches_in c t n ≡ 1 + (n - (r + 1)) / spacing_of t = matches_in-due c (r + 1) n t valid due (omega arith) in
+            absurd (omega (arith, none, some))
+        | inr before ↦ before
+      ],
+    )
+
+-- each pulse leaves one fewer
+fewer : (b : Bool) (c n comparator : ℕ) → n ≤ (comparator + (cond b (2 ^ 32) (2 ^ 64) - 1 - c % cond b (2 ^ 32) (2 ^ 64))) % cond b (2 ^ 32) (2 ^ 64)
+    → (comparator + (cond b (2 ^ 32) (2 ^ 64) - 1 - (c + n) % cond b (2 ^ 32) (2 ^ 64))) % cond b (2 ^ 32) (2 ^ 64)
+    ≡ (comparator + (cond b (2 ^ 32) (2 ^ 64) - 1 - c % cond b (2 ^ 32) (2 ^ 64))) % cond b (2 ^ 32) (2 ^ 64) - n
+fewer true c n comparator h = omega arith
+fewer false c n comparator h = omega arith
+
+pub pulses_before-after : (c n : ℕ) (t : TimerParts) → n ≤ pulses_before c t → pulses_before (c + n) t ≡ pulses_before c t - n
+unfolding pulses_before
+pulses_before-after c n t h = fewer (is_32_bit t) c n t.comparator h

@@ -37,6 +37,10 @@ matches_in from t (suc n) =
 abbrev pub spacing_of : TimerParts → ℕ
 spacing_of t = if is_periodic t && nat_lt 0 t.period then t.period else modulus t
 
+-- so many pulses come before the timer's next match, where the main counter is at c
+unfoldable pub pulses_before : ℕ → TimerParts → ℕ
+pulses_before c t = (t.comparator + (modulus t - 1 - c % modulus t)) % modulus t
+
 -- whether i is one of `count` numbers: first, first + every, first + 2 * every and so on
 abbrev pub falls_on : Option ℕ → ℕ → ℕ → ℕ → Bool
 falls_on None count every i = false

@@ -9,9 +9,10 @@ ghost use Rattle.hpet_comparator.specs.Stretch.{
   pulsed_times,
   matches_in,
   spacing_of,
+  pulses_before,
   falls_on,
 };
-ghost use Rattle.hpet_comparator.specs.private.Rounds.{IsDue, advanced};
+ghost use Rattle.hpet_comparator.specs.private.Rounds.{advanced};
 
 use crate::parts::{MODULUS_32, TimerParts, within};
 
@@ -55,23 +56,14 @@ impl TimerParts {
         }
     }
 
-    /// Whether none of the `n` pulses that follow the main counter's value `from` is a match.
+    /// How many pulses, from a main counter at `from` on, come before the timer's next match.
     #[inline(always)]
-    pub fn is_quiet(&self, from: u64, n: u64) -> bool
-        requires { IsTimer self.now }
-        ensures { IsTrue result ↔ (matches_in from self.now n ≡ 0) }
+    pub fn pulses_before(&self, from: u64) -> u64
+        ensures value { result ≡ pulses_before from self.now }
+        ensures quiet { (n : ℕ) → IsTimer self.now → (n ≤ result) ↔ (matches_in from self.now n ≡ 0) }
     {
-        n <= pulses_before(self, from)
+        within(self, self.comparator.wrapping_sub(from).wrapping_sub(1))
     }
-}
-
-/// How many pulses, from a main counter at `from` on, come before the timer's next match.
-#[inline(always)]
-fn pulses_before(parts: &TimerParts, from: u64) -> u64
-    requires valid { IsTimer parts.now }
-    ensures due { IsDue from parts.now (result + 1) }
-{
-    within(parts, parts.comparator.wrapping_sub(from).wrapping_sub(1))
 }
 
 /// How many matches come in the `rest` pulses after a match.
@@ -117,7 +109,7 @@ pub(crate) fn pulse(parts: &mut TimerParts, from: u64, n: u64) -> Matches
         → matches_at (counter_after from (suc i)) (pulsed_times from i parts.old)
         ≡ falls_on result.first result.count (spacing_of parts.old) (suc i) }
 {
-    let before = pulses_before(parts, from);
+    let before = parts.pulses_before(from);
     if n <= before {
         return Matches::NONE;
     }

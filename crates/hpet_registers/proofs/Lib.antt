@@ -3,7 +3,7 @@ pub mod Conditions
 pub mod Faults
 pub mod Product
 pub mod After
-pub mod Still
+pub mod Planned
 pub mod Messages
 pub mod Places
 pub mod Laws

@@ -34,6 +34,7 @@ ghost use Rattle.hpet_registers.specs.Stretch.{
 };
 
 use crate::parts::{HpetParts, NO_TIMER};
+use crate::plan::plan_of;
 use crate::{access, register, stretch};
 use hpet_comparator::{Matches, Timer, TimerParts};
 use std::marker::Model;
@@ -46,19 +47,26 @@ pub const HPET_HZ: u64 = 100_000_000;
 #[derive(Clone, Copy, Debug, PartialEq, Eq)]
 pub struct Hpet {
     parts: HpetParts,
+    /// The plan of these parts: so many pulses bring no match.
+    quiet: u64,
 }
 
 impl Model for Hpet {
     ghost use Rattle.hpet_registers.specs.declared.parts.HpetParts.{HpetParts};
-    ghost use Rattle.hpet_registers.specs.Parts.{IsHpet};
 
     ghost Value = { HpetParts };
 
+    ghost use Rattle.std.specs.Prelude.{ℕ};
+    ghost use Rattle.std.proofs.Common.{ap, sym};
+    ghost use Rattle.hpet_registers.specs.private.Plan.{plan_of, IsPlanned};
+
     ghost view = { λ h. h.parts };
 
-    ghost invariant = { λ h. IsHpet h.parts };
+    ghost invariant = { λ h. IsPlanned h.parts h.quiet };
 
-    ghost inverse = { λ p. record { parts = p } };
+    ghost inverse = { λ p. record { parts = p; quiet = plan_of p } };
+
+    ghost inverse_ok = { λ h is. ap (λ (quiet : ℕ). record { parts = h.parts; quiet = quiet }) (sym is.planned) };
 }
 
 impl Hpet {
@@ -70,18 +78,16 @@ impl Hpet {
     {
         let first = Timer::power_on().parts();
         let last = if timers == 8 { first } else { NO_TIMER };
-        Hpet {
-            parts: HpetParts {
-                config: 0,
-                status: 0,
-                counter: 0,
-                timer: [first, first, first, last, last, last, last, last],
-                timers,
-                messages,
-                message_bit: [false; 8],
-                message_word: [0; 8],
-            },
-        }
+        planned(HpetParts {
+            config: 0,
+            status: 0,
+            counter: 0,
+            timer: [first, first, first, last, last, last, last, last],
+            timers,
+            messages,
+            message_bit: [false; 8],
+            message_word: [0; 8],
+        })
     }
 
     /// All fields, as a saved state keeps them.
@@ -98,7 +104,7 @@ impl Hpet {
         ensures value { IfSome result (λ h. h ≡ parts) }
     {
         if parts.first_fault().is_none() {
-            Some(Hpet { parts })
+            Some(planned(parts))
         } else {
             None
         }
@@ -144,6 +150,7 @@ impl Hpet {
                 offset - offset % 8,
             );
             self.parts = access::register_written(self.parts, register, width, offset % 8 == 4, v);
+            self.quiet = plan_of(&self.parts);
         }
     }
 
@@ -191,25 +198,25 @@ impl Hpet {
         ensures places { result ≤ 8 }
         ensures reach { (k : ℕ) → result ≤ k → (timer_matches matches.new k).count ≡ 0 }
     {
-        stretch::pulse(&mut self.parts, n, matches)
+        stretch::pulse(&mut self.parts, &mut self.quiet, n, matches)
     }
 
     /// Counts `n` pulses, as `pulses` does, for a caller that asks for no matches.
-    // A caller pays for a few tests where the counter alone changes.
     #[inline(always)]
     pub fn pass(&mut self, n: u64)
         ensures { self.new ≡ hpet_pulsed_times n self.old }
     {
-        stretch::pass(&mut self.parts, n);
+        stretch::pass(&mut self.parts, &mut self.quiet, n);
     }
 
-    /// Whether no enabled timer matches within `n` pulses.
+    /// Whether no enabled timer matches within `n` pulses. It may answer false where a timer that isn't enabled matches.
     #[inline(always)]
     pub fn is_quiet(&self, n: u64) -> bool
         ensures { result ≡ true → (k : ℕ) → k < self.now.timers → is_enabled (timer_at k self.now) ≡ true
             → matches_of k self.now n ≡ 0 }
     {
-        stretch::is_quiet(&self.parts, n)
+        let _counter = self.parts.counter;
+        n <= self.quiet
     }
 
     /// The configuration: bit 0 ENABLE, bit 1 legacy replacement.
@@ -332,5 +339,16 @@ impl Hpet {
     {
         let replaced = self.legacy() && timer < 2;
         self.parts.message_bit[timer as usize] && self.has_edge_ticks(timer) && !replaced
+    }
+}
+
+/// The HPET with these fields.
+fn planned(parts: HpetParts) -> Hpet
+    requires { IsHpet parts }
+    ensures { result ≡ parts }
+{
+    Hpet {
+        parts,
+        quiet: plan_of(&parts),
     }
 }

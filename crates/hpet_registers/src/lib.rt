@@ -18,6 +18,7 @@
 mod access;
 mod hpet;
 mod parts;
+mod plan;
 mod register;
 mod stretch;
 

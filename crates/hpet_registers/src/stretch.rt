@@ -1,21 +1,16 @@
 //! The pulses of all timers at once.
 
-ghost use Rattle.std.specs.Prelude.{◌≡◌, ℕ, suc, ◌<◌, ◌≤◌, ◌&&◌, true, length, nat_lt, if◌then◌else◌};
+ghost use Rattle.std.specs.Prelude.{◌≡◌, ℕ, ◌<◌, ◌≤◌, ◌&&◌, true, nat_lt, if◌then◌else◌};
 ghost use Rattle.std.specs.Prelude.{slice_set, bit_or, ◌^◌, ◌+◌, map};
-ghost use Rattle.clk_units.specs.Events.{IsFirst};
-ghost use Rattle.hpet_comparator.specs.Parts.{IsTimer, is_level, is_enabled};
-ghost use Rattle.hpet_comparator.specs.Stretch.{pulsed_times, matches_in, spacing_of, falls_on};
-ghost use Rattle.hpet_registers.specs.Parts.{IsHpet, timer_at};
-ghost use Rattle.hpet_registers.specs.Stretch.{
-  with_bits,
-  matches_next,
-  hpet_pulsed_times,
-  matches_of,
-  timer_matches,
-};
-ghost use Rattle.hpet_registers.specs.private.Matches.{AreMatches, AreMatchesBelow, IsStill};
+ghost use Rattle.hpet_comparator.specs.Parts.{IsTimer, is_level};
+ghost use Rattle.hpet_comparator.specs.Stretch.{pulsed_times, matches_in};
+ghost use Rattle.hpet_registers.specs.Parts.{IsHpet, timer_at, is_running};
+ghost use Rattle.hpet_registers.specs.Stretch.{with_bits, hpet_pulsed_times, timer_matches};
+ghost use Rattle.hpet_registers.specs.private.Matches.{AreMatches, AreMatchesBelow, HasTaken};
+ghost use Rattle.hpet_registers.specs.private.Plan.{plan_of};
 
 use crate::parts::HpetParts;
+use crate::plan::{plan_of, take_planned};
 use hpet_comparator::{MainCounter, Matches, Timer};
 
 /// The status after matches of timer `k`: they set its bit where it is of level type.
@@ -96,110 +91,71 @@ fn pulse_timers(parts: &mut HpetParts, n: u64, matches: &mut [Matches; 8]) -> u8
     reach
 }
 
-/// Counts `n` pulses, and puts the matches of each timer into `matches`. Answers how many timers,
-/// from the first on, have all that matched.
-#[inline(always)]
-pub(crate) fn pulse(parts: &mut HpetParts, n: u64, matches: &mut [Matches; 8]) -> u8
-    requires valid { IsHpet parts.old }
-    requires fits { parts.old.counter < 2 ^ 64 }
-    ensures state { parts.new ≡ hpet_pulsed_times n parts.old }
-    ensures count { (k : ℕ) → (timer_matches matches.new k).count ≡ matches_of k parts.old n }
-    ensures few { (k : ℕ) → (timer_matches matches.new k).count ≤ n }
-    ensures first { (k : ℕ) → IsFirst (matches_of k parts.old) n
-        (timer_matches matches.new k).first }
-    ensures every { (k i : ℕ) → i < n
-        → matches_next k (hpet_pulsed_times i parts.old)
-        ≡ falls_on
-        (timer_matches matches.new k).first
-        (timer_matches matches.new k).count
-        (spacing_of (timer_at k parts.old))
-        (suc i) }
-    ensures reach { AreMatchesBelow result parts.old.timers matches.new }
-{
-    let from = parts.counter;
-    if parts.config % 2 == 0 {
-        *matches = [Matches::NONE; 8];
-        return 0;
-    }
-    let reach = pulse_timers(parts, n, matches);
-    let mut counter = MainCounter { value: from };
-    counter.pulses(n);
-    parts.counter = counter.value;
-    reach
-}
-
-/// Whether no match of `n` pulses of a counter that runs changes a timer or the status: each timer that is periodic or of
-/// level type has none.
-#[inline(always)]
-fn keeps_timers(parts: &HpetParts, n: u64) -> bool
-    requires { IsHpet parts.now }
-    ensures still { result ≡ true → (k : ℕ) → k < parts.now.timers → IsStill parts.now.counter n (timer_at k parts.now) }
-    ensures places { length parts.now.timer ≡ 8 }
-{
-    for k in 0..parts.timers {
-        let timer = &parts.timer[k as usize];
-        if (timer.is_periodic() || timer.is_level()) && !timer.is_quiet(parts.counter, n) {
-            return false;
-        }
-    }
-    true
-}
-
-/// Whether `n` pulses of a counter that runs bring no match of an enabled timer.
-#[inline(always)]
-fn has_no_enabled_match(parts: &HpetParts, n: u64) -> bool
-    requires { IsHpet parts.now }
-    ensures { result ≡ true → (k : ℕ) → k < parts.now.timers → is_enabled (timer_at k parts.now) ≡ true
-        → matches_in parts.now.counter (timer_at k parts.now) n ≡ 0 }
-{
-    for k in 0..parts.timers {
-        let timer = &parts.timer[k as usize];
-        if timer.is_enabled() && !timer.is_quiet(parts.counter, n) {
-            return false;
-        }
-    }
-    true
-}
-
-/// Whether `n` pulses bring no match of an enabled timer.
-#[inline(always)]
-pub(crate) fn is_quiet(parts: &HpetParts, n: u64) -> bool
-    requires { IsHpet parts.now }
-    ensures { result ≡ true → (k : ℕ) → k < parts.now.timers → is_enabled (timer_at k parts.now) ≡ true
-        → matches_of k parts.now n ≡ 0 }
-{
-    let _counter = parts.counter;
-    parts.config % 2 == 0 || has_no_enabled_match(parts, n)
-}
-
-/// Counts `n` pulses of which some match changes a timer or the status.
+/// Takes `n` pulses that aren't all planned, and plans anew. Puts the matches of each timer into
+/// `matches`, and answers how many timers, from the first on, have all that matched.
 #[inline(never)]
-fn pass_matches(parts: &mut HpetParts, n: u64)
+fn take_and_plan(parts: &mut HpetParts, quiet: &mut u64, n: u64, matches: &mut [Matches; 8]) -> u8
     requires valid { IsHpet parts.old }
     requires fits { parts.old.counter < 2 ^ 64 }
-    ensures { parts.new ≡ hpet_pulsed_times n parts.old }
+    requires runs { is_running parts.old ≡ true }
+    ensures taken { HasTaken n parts.old parts.new matches.new result }
+    ensures planned { quiet.new ≡ plan_of parts.new }
 {
-    let mut matches = [Matches::NONE; 8];
-    let _reach = pulse(parts, n, &mut matches);
-}
-
-/// Counts `n` pulses for a caller that asks for no matches: over most stretches the counter alone changes.
-#[inline(always)]
-pub(crate) fn pass(parts: &mut HpetParts, n: u64)
-    requires valid { IsHpet parts.old }
-    requires fits { parts.old.counter < 2 ^ 64 }
-    ensures { parts.new ≡ hpet_pulsed_times n parts.old }
-{
-    if parts.config % 2 == 0 {
-        return;
-    }
-    if !keeps_timers(parts, n) {
-        pass_matches(parts, n);
-        return;
-    }
     let mut counter = MainCounter {
         value: parts.counter,
     };
+    let reach = pulse_timers(parts, n, matches);
     counter.pulses(n);
     parts.counter = counter.value;
+    *quiet = plan_of(parts);
+    reach
+}
+
+/// Counts `n` pulses, and puts the matches of each timer into `matches`. Answers how many timers,
+/// from the first on, have all that matched.
+#[inline(always)]
+pub(crate) fn pulse(
+    parts: &mut HpetParts,
+    quiet: &mut u64,
+    n: u64,
+    matches: &mut [Matches; 8],
+) -> u8
+    requires valid { IsHpet parts.old }
+    requires fits { parts.old.counter < 2 ^ 64 }
+    requires planned { quiet.old ≡ plan_of parts.old }
+    ensures taken { HasTaken n parts.old parts.new matches.new result }
+    ensures planned { quiet.new ≡ plan_of parts.new }
+{
+    if take_planned(parts, quiet, n) {
+        *matches = [Matches::NONE; 8];
+        return 0;
+    }
+    take_and_plan(parts, quiet, n, matches)
+}
+
+/// Counts `n` pulses that aren't all planned, for a caller that asks for no matches.
+#[inline(never)]
+fn pass_matches(parts: &mut HpetParts, quiet: &mut u64, n: u64)
+    requires valid { IsHpet parts.old }
+    requires fits { parts.old.counter < 2 ^ 64 }
+    requires runs { is_running parts.old ≡ true }
+    ensures state { parts.new ≡ hpet_pulsed_times n parts.old }
+    ensures planned { quiet.new ≡ plan_of parts.new }
+{
+    let mut matches = [Matches::NONE; 8];
+    let _reach = take_and_plan(parts, quiet, n, &mut matches);
+}
+
+/// Counts `n` pulses for a caller that asks for no matches.
+#[inline(always)]
+pub(crate) fn pass(parts: &mut HpetParts, quiet: &mut u64, n: u64)
+    requires valid { IsHpet parts.old }
+    requires fits { parts.old.counter < 2 ^ 64 }
+    requires planned { quiet.old ≡ plan_of parts.old }
+    ensures state { parts.new ≡ hpet_pulsed_times n parts.old }
+    ensures planned { quiet.new ≡ plan_of parts.new }
+{
+    if !take_planned(parts, quiet, n) {
+        pass_matches(parts, quiet, n);
+    }
 }

@@ -1,28 +1,5 @@
 -- Two stretches of pulses, one after the other.
-use Rattle.std.proofs.Common.{
-  ◌≡◌,
-  ℕ,
-  zero,
-  suc,
-  ◌+◌,
-  ◌-◌,
-  ◌^◌,
-  ◌<◌,
-  ◌≤◌,
-  Bool,
-  true,
-  false,
-  cond,
-  Option,
-  Some,
-  None,
-  refl,
-  sym,
-  ap,
-  ◌∙◌,
-  arith,
-  subst,
-}
+use Rattle.std.proofs.Common.{◌≡◌, ℕ, zero, suc, ◌+◌, ◌-◌, ◌^◌, ◌<◌, Bool, true, false, cond, Option, Some, None, sym, ap, ◌∙◌, arith, subst}
 use Rattle.std.specs.Option.{IfSome}
 use Rattle.clk_units.specs.Events.{IsFirst}
 use Rattle.pit_counter.specs.private.Stretch.{joined_first}
@@ -82,14 +59,3 @@ HasTaken-joined m n a b c early later both f g count first = record {
       (IsFirst-joined a m n early.first later.first f.first
       (subst (λ (x : CounterParts). IsFirst (rises_in x) n later.first) f.state g.first));
 }
-
--- n pulses, of which the first m are taken
-pub HasTaken-rest : (m n : ℕ) (a b c : CounterParts) (early later both : Rises) → m ≤ n → HasTaken m a b early → HasTaken (n - m) b c later
-    → both.count ≡ early.count + later.count → both.first ≡ joined_first early.first m later.first → HasTaken n a c both
-HasTaken-rest m n a b c early later both within f g count first =
-    let whole : m + (n - m) ≡ n = omega arith in
-    subst (λ (k : ℕ). HasTaken k a c both) whole (HasTaken-joined m (n - m) a b c early later both f g count first)
-
-pub joined_first-none : (first : Option ℕ) (m : ℕ) → joined_first first m None ≡ first
-joined_first-none (Some k) m = refl
-joined_first-none None m = refl

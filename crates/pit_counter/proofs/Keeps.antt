@@ -94,7 +94,7 @@ lowered-even : (bits ce : ℕ) → ce % 2 ≡ 0 → lowered bits ce 2 % 2 ≡ 0
 unfolding lowered modulus
 lowered-even bits ce even = cond_both (is_bcd bits) 10000 65536 (λ m. (ce + m - 2) % m % 2 ≡ 0) (λ _. omega arith) (λ _. omega arith)
 
-loaded_count-even : (bits cr : ℕ) → is_square (mode_of bits) ≡ true → loaded_count bits cr % 2 ≡ 0
+pub loaded_count-even : (bits cr : ℕ) → is_square (mode_of bits) ≡ true → loaded_count bits cr % 2 ≡ 0
 unfolding loaded_count modulus is_odd_square
 loaded_count-even bits cr square =
     simp square (cond_both (is_bcd bits) 10000 65536 (λ m. (meant_count bits cr - cond (eqb (meant_count bits cr % 2) 1) 1 0) % m % 2 ≡ 0)

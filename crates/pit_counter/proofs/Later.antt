@@ -1,7 +1,7 @@
 -- What pulses leave for a read.
-use Rattle.std.proofs.Common.{◌≡◌, ℕ, zero, suc, ◌/◌, ◌%◌, Bool, true, false, not, ◌&&◌, ◌||◌, cond, eqb, refl, sym, ap, ◌∙◌}
+use Rattle.std.proofs.Common.{◌≡◌, ◌≢◌, if◌then◌else◌, ℕ, zero, suc, ◌/◌, ◌%◌, Bool, true, false, not, ◌&&◌, ◌||◌, cond, eqb, refl, sym, ap, ◌∙◌}
 use Rattle.std.specs.Prelude.{IsTrue}
-use Rattle.std.proofs.lemmas.Bool.{eqb-true}
+use Rattle.std.proofs.lemmas.Bool.{eqb-true, ne_eqb}
 use Rattle.pit_counter.specs.Mode.{mode_of, access_of, is_bcd, takes_two}
 use Rattle.pit_counter.specs.Table.{effect_in, affected, pulsed, pulsed_times}
 use Rattle.pit_counter.specs.Count.{read_as, to_digits}
@@ -16,6 +16,7 @@ use Rattle.pit_counter.specs.declared.table.Effect.TheVariants.{
   DownToStrobe,
   Stand,
 }
+use Rattle.pit_counter.specs.declared.mode.Access.TheVariants.{LowByte, HighByte, LowThenHigh}
 use Rattle.pit_counter.specs.declared.parts.CounterParts.{CounterParts}
 use Rattle.pit_counter.proofs.Times.{pulsed_times-zero, pulsed_times-suc}
 
@@ -86,6 +87,19 @@ none_latched false x e h = eqb-true x 0 h
 zero_either : (b : Bool) (x : ℕ) → x ≡ 0 → x ≡ cond b 0 x
 zero_either true x e = e
 zero_either false x e = refl
+
+-- RW1 and RW0 of 01 and 10 name one byte, and others both
+pub takes_one : (bits rw : ℕ) → bits / 16 % 4 ≡ rw
+    → takes_two (access_of bits) ≡ takes_two (if eqb rw 1 then LowByte else if eqb rw 2 then HighByte else LowThenHigh)
+unfolding access_of
+takes_one bits rw e = ap (λ (n : ℕ). takes_two (if eqb n 1 then LowByte else if eqb n 2 then HighByte else LowThenHigh)) e
+
+pub takes_both : (bits : ℕ) → bits / 16 % 4 ≢ 1 → bits / 16 % 4 ≢ 2 → takes_two (access_of bits) ≡ true
+unfolding access_of
+takes_both bits not1 not2 =
+    let rw = bits / 16 % 4 in
+    ap (λ (b : Bool). takes_two (if b then LowByte else if eqb rw 2 then HighByte else LowThenHigh)) (ne_eqb rw 1 not1)
+    ∙ ap (λ (b : Bool). takes_two (if b then HighByte else LowThenHigh)) (ne_eqb rw 2 not2)
 
 pub after_read-present : (c : CounterParts) (next : Bool) → IsCounter c → c.status_latched ≡ false → c.count_latched ≡ false
     → next ≡ (takes_two (access_of c.bits) && not c.high_next) → record c { high_next = next } ≡ after_read c

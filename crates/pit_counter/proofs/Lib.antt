@@ -5,6 +5,7 @@ pub mod Quiet
 pub mod Joins
 pub mod Reloaded
 pub mod Divided
+pub mod Square
 pub mod Later
 pub mod Planned
 mod PartRows

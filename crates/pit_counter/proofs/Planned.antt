@@ -1,12 +1,12 @@
 -- Pulses that are planned.
-use Rattle.std.proofs.Common.{◌≡◌, ℕ, zero, ◌+◌, ◌-◌, ◌*◌, ◌/◌, ◌%◌, ◌<◌, ◌≤◌, min, Bool, true, false, ◌&&◌, cond, eqb}
+use Rattle.std.proofs.Common.{◌≡◌, ℕ, ◌+◌, ◌-◌, ◌*◌, ◌/◌, ◌%◌, ◌<◌, ◌≤◌, min, Bool, true, false, not, ◌&&◌, cond, eqb}
 use Rattle.std.proofs.Common.{refl, sym, ap, ◌∙◌, arith, inl, inr, subst}
-use Rattle.std.proofs.lemmas.Bool.{cond_both, cases_lt, eqb-true}
+use Rattle.std.proofs.lemmas.Bool.{and_parts, cond_both, cases_lt, eqb-true, eqb-false, ne_eqb, eq-eqb}
 use Rattle.pit_counter.specs.Mode.{mode_of, is_bcd}
 use Rattle.pit_counter.specs.Count.{modulus}
 use Rattle.pit_counter.specs.Table.{effect_in, pulsed_times, rises_in}
 use Rattle.pit_counter.specs.Reading.{status_of, with_count_latched, with_status_latched, status_released, count_released, after_read}
-use Rattle.pit_counter.specs.private.Stretch.{step_of, is_still, forever, height, quiet_for, glided_count, glided}
+use Rattle.pit_counter.specs.private.Stretch.{step_of, is_still, forever, height, quiet_for, glided_count, glided, is_dividing, with_left}
 use Rattle.pit_counter.specs.private.Plan.{planned_for, plan_by, plan_of}
 use Rattle.pit_counter.specs.declared.mode.Mode.{Mode}
 use Rattle.pit_counter.specs.declared.mode.Mode.TheVariants.{TerminalCount, OneShot, RateGenerator, SquareWave, SoftwareStrobe, HardwareStrobe}
@@ -15,7 +15,8 @@ use Rattle.pit_counter.specs.declared.table.Effect.TheVariants.{Load, DownToHigh
 use Rattle.pit_counter.specs.declared.plan.Plan.{Plan}
 use Rattle.pit_counter.specs.declared.parts.CounterParts.{CounterParts}
 use Rattle.pit_counter.proofs.Divided.{modulus-le}
-use Rattle.pit_counter.proofs.Quiet.{next_effect, effect_in-glided, pulsed_times-glided, rises_in-glided, pulsed_times-still, rises_in-still}
+use Rattle.pit_counter.proofs.Reloaded.{Counting, Counting-from, effect-rate, not_from, rate-from}
+use Rattle.pit_counter.proofs.Quiet.{next_effect, rate_effect, effect_in-glided, pulsed_times-glided, rises_in-glided, pulsed_times-still, rises_in-still}
 
 -- a count that doesn't pass 0
 glided_count-above : (bits ce down : ℕ) → ce < modulus bits → down ≤ ce → glided_count bits ce down ≡ ce - down
@@ -250,3 +251,48 @@ pub plan_of-status_latched : (c : CounterParts) → plan_of (with_status_latched
 unfolding with_status_latched
 plan_of-status_latched c = plan_of-same c (with_status_latched c)
     (cond_both c.status_latched c (record c { status_latched = true; latched_status = status_of c }) (λ d. bare d ≡ bare c) (λ _. refl) (λ _. refl))
+
+-- ---- a counter that divides, by what is left of its period
+
+not_one : (bits n : ℕ) → 0 < n → n ≤ modulus bits → eqb n 1 ≡ false → eqb (n % modulus bits) 1 ≡ false
+unfolding modulus
+not_one bits n = cond_both (is_bcd bits) 10000 65536 (λ m. 0 < n → n ≤ m → eqb n 1 ≡ false → eqb (n % m) 1 ≡ false)
+    (λ _ some few e. ne_eqb (n % 10000) 1 (λ one. omega (arith, eqb-false n 1 e)))
+    (λ _ some few e. ne_eqb (n % 65536) 1 (λ one. omega (arith, eqb-false n 1 e)))
+
+one-of : (bits n : ℕ) → n ≡ 1 → n % modulus bits ≡ 1
+unfolding modulus
+one-of bits n = cond_both (is_bcd bits) 10000 65536 (λ m. n ≡ 1 → n % m ≡ 1) (λ _ e. omega arith) (λ _ e. omega arith)
+
+dividing-counts : (c : CounterParts) → is_dividing c ≡ true → (mode_of c.bits ≡ RateGenerator) × Counting c
+unfolding is_dividing
+dividing-counts c h =
+    let a = and_parts _ _ h in
+    let b = and_parts _ _ a.0 in
+    let d = and_parts _ _ b.0 in
+    let e = and_parts _ _ d.0 in
+    (rate-from (mode_of c.bits) e.0, Counting-from c e.1 d.1 (not_from c.trig b.1))
+
+-- the last pulse of it loads
+pub plan_of-last : (c : CounterParts) (n : ℕ) → is_dividing c ≡ true → n ≡ 1 → record { quiet = n % modulus c.bits - 3; step = 0 } ≡ plan_of (with_left n c)
+unfolding plan_of quiet_for
+plan_of-last c n h one =
+    let k = dividing-counts c h in
+    let count = one-of c.bits n one in
+    let effect : next_effect (with_left n c) ≡ Load true =
+    effect-rate c (n % modulus c.bits) (not (eqb n 1)) k.1 k.0
+    ∙ ap (λ (b : Bool). rate_effect false true b (not (eqb n 1))) (eq-eqb (n % modulus c.bits) 1 count) in
+    let none : n % modulus c.bits - 3 ≡ min 0 (n % modulus c.bits) - 1 = omega (arith, count) in
+    ap (λ (q : ℕ). record { quiet = q; step = 0 }) none ∙ ap (λ (e : Effect). plan_by e (with_left n c)) (sym effect)
+
+-- the pulses before count
+pub plan_of-left : (c : CounterParts) (n : ℕ) → is_dividing c ≡ true → 0 < n → n ≤ modulus c.bits → (n ≡ 1 → ⊥)
+    → record { quiet = n % modulus c.bits - 3; step = 1 } ≡ plan_of (with_left n c)
+unfolding plan_of quiet_for
+plan_of-left c n h some few other =
+    let k = dividing-counts c h in
+    let effect : next_effect (with_left n c) ≡ DownToLow =
+    effect-rate c (n % modulus c.bits) (not (eqb n 1)) k.1 k.0
+    ∙ ap (λ (b : Bool). rate_effect false true b (not (eqb n 1))) (not_one c.bits n some few (ne_eqb n 1 other)) in
+    let quiet : n % modulus c.bits - 3 ≡ min (height (with_left n c) - 2) (n % modulus c.bits) - 1 = omega (arith, low (with_left n c) 2) in
+    ap (λ (q : ℕ). record { quiet = q; step = 1 }) quiet ∙ ap (λ (e : Effect). plan_by e (with_left n c)) (sym effect)

@@ -67,16 +67,16 @@ use Rattle.pit_counter.proofs.Times.{
 use Rattle.pit_counter.proofs.Joins.{pulsed_times-joined, rises_in-joined}
 
 -- what the test says
-record Reloaded (c : CounterParts) : Type 0 where
-  periodic : is_periodic (mode_of c.bits) ≡ true
-  gate : c.gate ≡ true
-  live : c.live ≡ true
-  out : c.out ≡ true
-  null : c.null ≡ false
-  trig : c.trig ≡ false
-  armed : c.armed ≡ false
-  ce : c.ce ≡ loaded_count c.bits c.cr
-  odd : c.odd ≡ is_odd_square c.bits c.cr
+pub record Reloaded (c : CounterParts) : Type 0 where
+  pub periodic : is_periodic (mode_of c.bits) ≡ true
+  pub gate : c.gate ≡ true
+  pub live : c.live ≡ true
+  pub out : c.out ≡ true
+  pub null : c.null ≡ false
+  pub trig : c.trig ≡ false
+  pub armed : c.armed ≡ false
+  pub ce : c.ce ≡ loaded_count c.bits c.cr
+  pub odd : c.odd ≡ is_odd_square c.bits c.cr
 
 odd_from : (test odd : Bool) → cond test odd (not odd) ≡ true → odd ≡ test
 odd_from true true h = refl
@@ -130,7 +130,7 @@ pub record Round (c : CounterParts) (n : ℕ) : Type 0 where
   pub rise : rises_in c n ≡ 1
 
 -- one pulse after some without a rise
-one_more : (c d e : CounterParts) (n : ℕ) → pulsed_times n c ≡ d → rises_in c n ≡ 0 → pulsed d ≡ e → (rises : Bool) → rises_next d ≡ rises
+pub one_more : (c d e : CounterParts) (n : ℕ) → pulsed_times n c ≡ d → rises_in c n ≡ 0 → pulsed d ≡ e → (rises : Bool) → rises_next d ≡ rises
     → (pulsed_times (suc n) c ≡ e) × (rises_in c (suc n) ≡ cond rises 1 0)
 one_more c d e n here none next rises test = (
   pulsed_times-suc n c ∙ ap pulsed here ∙ next,
@@ -177,13 +177,13 @@ effect-rate c x o k m =
     ∙ ap (λ (b : Bool). rate_effect b (c.live && c.gate) (eqb x 1) o) k.begins
     ∙ ap (λ (b : Bool). rate_effect false b (eqb x 1) o) k.counts
 
-effect-square : (c : CounterParts) (x : ℕ) (o : Bool) → Reloaded c → mode_of c.bits ≡ SquareWave
+pub effect-square : (c : CounterParts) (x : ℕ) (o : Bool) → Counting c → mode_of c.bits ≡ SquareWave
     → effect_in (mode_of c.bits) (record c { ce = x; out = o }) ≡ square_effect false true o c.odd (eqb x 0) (eqb x 2)
 unfolding effect_in
-effect-square c x o r m =
+effect-square c x o k m =
     ap (λ (n : Mode). effect_in n (record c { ce = x; out = o })) m
-    ∙ ap (λ (b : Bool). square_effect b (c.live && c.gate) o c.odd (eqb x 0) (eqb x 2)) (Counting-reloaded c r).begins
-    ∙ ap (λ (b : Bool). square_effect false b o c.odd (eqb x 0) (eqb x 2)) (Counting-reloaded c r).counts
+    ∙ ap (λ (b : Bool). square_effect b (c.live && c.gate) o c.odd (eqb x 0) (eqb x 2)) k.begins
+    ∙ ap (λ (b : Bool). square_effect false b o c.odd (eqb x 0) (eqb x 2)) k.counts
 
 -- a height of 2 is a count of 2
 low-height : (c : CounterParts) → height c ≡ 2 → c.ce ≡ 2
@@ -227,7 +227,7 @@ no_level true = refl
 no_level false = refl
 
 -- what is left of a period of mode 2: down to 1, and a load
-to_load : (c : CounterParts) (q : ℕ) → Counting c → mode_of c.bits ≡ RateGenerator → c.ce < modulus c.bits → height c ≡ suc (suc q)
+pub to_load : (c : CounterParts) (q : ℕ) → Counting c → mode_of c.bits ≡ RateGenerator → c.ce < modulus c.bits → height c ≡ suc (suc q)
     → (pulsed_times (suc (suc q)) c ≡ affected (Load true) c) × (rises_in c (suc q) ≡ 0) × (rises_in c (suc (suc q)) ≡ 1)
 unfolding pulsed rises_next
 to_load c q k m below h =
@@ -262,7 +262,7 @@ down_by_two true true z h = cc
 down_by_two true false z h = refl
 down_by_two false odd z h = refl
 
-toggles : (o odd : Bool) → (o && odd) ≡ false → square_effect false true o odd false true ≡ Load (not o)
+pub toggles : (o odd : Bool) → (o && odd) ≡ false → square_effect false true o odd false true ≡ Load (not o)
 toggles true true h = cc
 toggles true false h = refl
 toggles false odd h = refl
@@ -272,7 +272,7 @@ toggled : (c : CounterParts) (x : ℕ) (o p : Bool) → Reloaded c → mode_of c
     → affected (Load p) (record c { ce = x; out = o }) ≡ record c { out = p }
 toggled c x o p r m = ap (λ (d : CounterParts). record d { out = p }) (reload-same c r (ap has_strobe m))
 
-both_same : (b : Bool) → (b && b) ≡ b
+pub both_same : (b : Bool) → (b && b) ≡ b
 both_same true = refl
 both_same false = refl
 
@@ -286,7 +286,7 @@ half_to_two c o zero r m below even h =
 half_to_two c o (suc k) r m below even h =
     let d : CounterParts = record c { out = o } in
     let effect : next_effect (record c { out = o }) ≡ DownByTwo =
-    effect-square c c.ce o r m ∙ ap (λ (b : Bool). square_effect false true o c.odd (eqb c.ce 0) b) (count-not c 2 (omega arith) (omega (arith, h)))
+    effect-square c c.ce o (Counting-reloaded c r) m ∙ ap (λ (b : Bool). square_effect false true o c.odd (eqb c.ce 0) b) (count-not c 2 (omega arith) (omega (arith, h)))
     ∙ down_by_two o c.odd (eqb c.ce 0) even in
     let quiet : quiet_for DownByTwo (record c { out = o }) ≡ height c / 2 - 1 = ap (λ (b : Bool). cond b (c.ce / 2) (height c / 2 - 1)) even in
     let within : suc k ≤ quiet_for (next_effect (record c { out = o })) (record c { out = o }) =
@@ -305,7 +305,7 @@ unfolding pulsed rises_next
 half c o k r m below even h =
     let down = half_to_two c o k r m below even h in
     let turns : pulsed (record c { ce = 2; out = o }) ≡ record c { out = not o } =
-    ap (λ (e : Effect). affected e (record c { ce = 2; out = o })) (effect-square c 2 o r m ∙ toggles o c.odd even) ∙ toggled c 2 o (not o) r m in
+    ap (λ (e : Effect). affected e (record c { ce = 2; out = o })) (effect-square c 2 o (Counting-reloaded c r) m ∙ toggles o c.odd even) ∙ toggled c 2 o (not o) r m in
     let rises : rises_next (record c { ce = 2; out = o }) ≡ not o = ap (λ (d : CounterParts). not o && d.out) turns ∙ both_same (not o) in
     let more = one_more (record c { out = o }) (record c { ce = 2; out = o }) (record c { out = not o }) k down.0 down.1 turns (not o) rises in
     (more.0, more.1, down.1)
@@ -322,7 +322,7 @@ unfolding quiet_for glided pulsed rises_next
 odd_half c k r m below odd h =
     let nonzero : eqb c.ce 0 ≡ false = ne_eqb c.ce 0 (λ z. omega arith) in
     let effect : next_effect c ≡ DownByTwo =
-    effect-square c c.ce c.out r m
+    effect-square c c.ce c.out (Counting-reloaded c r) m
     ∙ ap (λ (b : Bool). square_effect false true b c.odd (eqb c.ce 0) (eqb c.ce 2)) r.out
     ∙ ap (λ (b : Bool). square_effect false true true b (eqb c.ce 0) (eqb c.ce 2)) odd
     ∙ ap (λ (b : Bool). square_effect false true true true b (eqb c.ce 2)) nonzero in
@@ -334,7 +334,7 @@ odd_half c k r m below odd h =
     ∙ ap (λ (x : ℕ). record c { ce = x }) place in
     let turns : pulsed (record c { ce = 0 }) ≡ record c { out = false } =
     ap (λ (e : Effect). affected e (record c { ce = 0 }))
-    (effect-square c 0 c.out r m
+    (effect-square c 0 c.out (Counting-reloaded c r) m
     ∙ ap (λ (b : Bool). square_effect false true b c.odd true false) r.out
     ∙ ap (λ (b : Bool). square_effect false true true b true false) odd)
     ∙ toggled c 0 c.out false r m in
@@ -397,7 +397,7 @@ unfolding modulus
 odd_count bits n = cond_both (is_bcd bits) 10000 65536 (λ m. n ≤ m → n % 2 ≡ 1 → (n - 1) % m ≡ n - 1) (λ _ h e. omega arith) (λ _ h e. omega arith)
 
 -- mode 3, by whether the count is odd
-round_in_3 : (c : CounterParts) (odd : Bool) → Reloaded c → mode_of c.bits ≡ SquareWave → c.ce < modulus c.bits → 2 ≤ meant_count c.bits c.cr
+pub round_in_3 : (c : CounterParts) (odd : Bool) → Reloaded c → mode_of c.bits ≡ SquareWave → c.ce < modulus c.bits → 2 ≤ meant_count c.bits c.cr
     → meant_count c.bits c.cr ≤ modulus c.bits
     → eqb (meant_count c.bits c.cr % 2) 1 ≡ odd → Round c (meant_count c.bits c.cr)
 unfolding is_odd_square
@@ -503,7 +503,7 @@ load_rate c n h meant =
     λ i. record c { ce = count i; out = true; null = false; live = d.1 i; trig = trig i; armed = strobe i; odd = odd i }
 
 -- where the count isn't 1 there are two pulses at least
-height-two : (c : CounterParts) → eqb c.ce 1 ≡ false → 2 ≤ height c
+pub height-two : (c : CounterParts) → eqb c.ce 1 ≡ false → 2 ≤ height c
 unfolding height modulus
 height-two c other = cond_both (eqb c.ce 0) (cond (is_bcd c.bits) 10000 65536) c.ce (λ x. 2 ≤ x)
     (λ _. cond_both (is_bcd c.bits) 10000 65536 (λ x. 2 ≤ x) (λ _. lit≤ tt) (λ _. lit≤ tt))

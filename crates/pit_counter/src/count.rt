@@ -1,6 +1,6 @@
 //! Counts in binary and in BCD. Intel 8254 data sheet, "Programming the 8254".
 
-ghost use Rattle.std.specs.Prelude.{◌≡◌, ◌<◌, ◌≤◌};
+ghost use Rattle.std.specs.Prelude.{◌≡◌, ◌%◌, ◌<◌, ◌≤◌};
 ghost use Rattle.pit_counter.specs.Count.{
   modulus,
   from_digits,
@@ -99,6 +99,20 @@ pub fn lowered(bits: u8, ce: u16, by: u32) -> u16
     ensures { result ≡ lowered bits ce by }
 {
     ((ce as u32 + modulus(bits) - by) % modulus(bits)) as u16
+}
+
+/// The count that is so far above 0; the greatest count is 0.
+#[inline(always)]
+#[tactic(auto, unfolding(crate::specs::Count::modulus))]
+pub fn count_left(bits: u8, left: u64) -> u16
+    requires { left ≤ modulus bits }
+    ensures { result ≡ left % modulus bits }
+{
+    if left == modulus(bits) as u64 {
+        0
+    } else {
+        left as u16
+    }
 }
 
 /// The counting element as the processor reads it: in BCD as four digits.

@@ -18,6 +18,7 @@
 
 mod count;
 mod counter;
+mod halves;
 mod mode;
 mod parts;
 mod plan;

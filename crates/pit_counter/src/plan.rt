@@ -1,16 +1,18 @@
 //! The quiet pulses that come next, planned ahead: most calls ask for some of them, and a plan answers these at once.
 
-ghost use Rattle.std.specs.Prelude.{◌≡◌, ◌≤◌, ◌<◌};
+ghost use Rattle.std.specs.Prelude.{◌≡◌, ◌≤◌, ◌<◌, true};
 ghost use Rattle.std.specs.Bool.{OnTrue, OnFalse};
 ghost use Rattle.pit_counter.specs.Count.{modulus};
 ghost use Rattle.pit_counter.specs.Parts.{IsCounter};
 ghost use Rattle.pit_counter.specs.Table.{pulsed_times, rises_in};
 ghost use Rattle.pit_counter.specs.private.Plan.{planned_for, plan_of};
+ghost use Rattle.pit_counter.specs.private.Stretch.{is_dividing, with_left};
 ghost use Rattle.pit_counter.specs.private.Taken.{HasTaken};
 
+use crate::count::{count_left, meant_count};
 use crate::parts::CounterParts;
-use crate::rises::Rises;
-use crate::stretch::{FOREVER, is_still, quiet_for, step_of, take_pulses};
+use crate::rises::{NONE, Rises};
+use crate::stretch::{FOREVER, height, is_dividing, is_still, quiet_for, step_of, take_pulses};
 use crate::table::{Effect, next_effect};
 
 /// What the next pulses of a counter do. It follows from the counter's fields, and is kept beside them.
@@ -76,6 +78,47 @@ pub fn take_planned(plan: &mut Plan, p: &mut CounterParts, n: u64) -> bool
     true
 }
 
+/// Sets a counter that divides to so many pulses before its next load, and plans anew.
+#[inline(always)]
+fn set_left(plan: &mut Plan, p: &mut CounterParts, left: u64)
+    requires some { 0 < left }
+    requires within { left ≤ modulus p.old.bits }
+    requires counts { is_dividing p.old ≡ true }
+    ensures state { p.new ≡ with_left left p.old }
+    ensures planned { plan.new ≡ plan_of p.new }
+{
+    p.ce = count_left(p.bits, left);
+    p.out = left != 1;
+    *plan = Plan {
+        quiet: (p.ce as u64).saturating_sub(3),
+        step: if left == 1 { 0 } else { 1 },
+    };
+}
+
+/// Takes `n` pulses of a counter that divides, and plans anew: what is left of a period after them
+/// says both.
+#[inline(always)]
+fn divide_and_plan(plan: &mut Plan, p: &mut CounterParts, n: u64) -> Rises
+    requires valid { IsCounter p.old }
+    requires counts { is_dividing p.old ≡ true }
+    ensures taken { HasTaken n p.old p.new result }
+    ensures planned { plan.new ≡ plan_of p.new }
+{
+    let left = height(p);
+    if n < left {
+        set_left(plan, p, left - n);
+        return NONE;
+    }
+    let period = meant_count(p.bits, p.cr) as u64;
+    let later = n - left;
+    p.null = false;
+    set_left(plan, p, period - later % period);
+    Rises {
+        count: 1 + later / period,
+        first: Some(left),
+    }
+}
+
 /// Takes `n` pulses that aren't all planned, and plans anew.
 #[cold]
 #[inline(never)]
@@ -84,6 +127,9 @@ pub fn take_and_plan(plan: &mut Plan, p: &mut CounterParts, n: u64) -> Rises
     ensures taken { HasTaken n p.old p.new result }
     ensures planned { plan.new ≡ plan_of p.new }
 {
+    if is_dividing(p) {
+        return divide_and_plan(plan, p, n);
+    }
     let rises = take_pulses(p, n);
     *plan = plan_of(p);
     rises

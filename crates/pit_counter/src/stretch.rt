@@ -2,10 +2,9 @@
 //! between them.
 
 ghost use Rattle.std.specs.Prelude.{◌≡◌, ◌*◌, ◌%◌, ◌<◌, ◌≤◌, true, not, if◌then◌else◌};
-ghost use Rattle.std.specs.Bool.{OnTrue, OnFalse};
 ghost use Rattle.pit_counter.specs.Count.{modulus, meant_count};
 ghost use Rattle.pit_counter.specs.Parts.{IsCounter};
-ghost use Rattle.pit_counter.specs.Table.{affected, pulsed_times, rises_in};
+ghost use Rattle.pit_counter.specs.Table.{pulsed_times};
 ghost use Rattle.pit_counter.specs.private.Stretch.{
   step_of,
   is_still,
@@ -19,6 +18,7 @@ ghost use Rattle.pit_counter.specs.private.Stretch.{
 ghost use Rattle.pit_counter.specs.private.Taken.{HasTaken, IsLeap};
 
 use crate::count::{is_odd_square, loaded_count, meant_count, modulus};
+use crate::halves::{is_halving, take_square};
 use crate::mode::{is_bcd, mode_of};
 use crate::parts::CounterParts;
 use crate::rises::{NONE, Rises, joined, with_pulse};
@@ -41,7 +41,7 @@ pub fn step_of(effect: Effect) -> u8
 
 /// How far the count is above 0: the whole way round where it is 0.
 #[tactic(auto, unfolding(crate::specs::private::Stretch::height))]
-fn height(p: &CounterParts) -> u64
+pub fn height(p: &CounterParts) -> u64
     ensures value { result ≡ height p.now }
     ensures greatest { result ≤ 65536 }
 {
@@ -139,28 +139,6 @@ fn glided(effect: Effect, n: u64, p: CounterParts) -> CounterParts
     }
 }
 
-/// Takes `n` pulses if all of them are quiet, which most calls ask for. Answers whether they are.
-#[inline(always)]
-fn glide(p: &mut CounterParts, n: u64) -> bool
-    requires { p.old.ce < modulus p.old.bits }
-    ensures state { OnTrue result (p.new ≡ pulsed_times n p.old) }
-    ensures quiet { OnTrue result (rises_in p.old n ≡ 0) }
-    ensures kept { OnFalse result (p.new ≡ p.old) }
-{
-    if n == 0 {
-        return true;
-    }
-    let effect = next_effect(p);
-    if is_still(effect, p.out) {
-        return true;
-    }
-    if n > quiet_for(effect, p) {
-        return false;
-    }
-    p.ce = glided_count(p.bits, p.ce, step_of(effect), n);
-    true
-}
-
 /// Some pulses that were taken.
 #[derive(Clone, Copy)]
 struct Leap {
@@ -219,46 +197,6 @@ fn whole_periods(p: CounterParts, n: u64) -> Leap
         rises: Rises {
             count,
             first: Some(period),
-        },
-    }
-}
-
-/// The counter after a load in mode 2 while it counts, by the count that is meant.
-#[inline(always)]
-#[tactic(auto, using(crate::proofs::Reloaded::load_rate))]
-fn reloaded_rate(p: CounterParts, period: u32) -> CounterParts
-    requires counts { is_dividing p ≡ true }
-    requires period { period ≡ meant_count p.bits p.cr }
-    ensures { result ≡ affected (Effect.Load true) p }
-{
-    CounterParts {
-        ce: (period % modulus(p.bits)) as u16,
-        out: true,
-        null: false,
-        armed: false,
-        odd: false,
-        ..p
-    }
-}
-
-/// In mode 2 takes what is left of a period, and as many whole ones as there are after it in `n`
-/// pulses. Each ends with a load, and with a rise at its last pulse.
-#[inline(always)]
-fn rate_periods(p: CounterParts, n: u64) -> Leap
-    requires one { height p ≤ n }
-    requires below { p.ce < modulus p.bits }
-    requires counts { is_dividing p ≡ true }
-    ensures { IsLeap n p result }
-{
-    let left = height(&p);
-    let period = meant_count(p.bits, p.cr);
-    let whole = (n - left) / period as u64;
-    Leap {
-        parts: reloaded_rate(p, period),
-        pulses: left + whole * period as u64,
-        rises: Rises {
-            count: 1 + whole,
-            first: Some(left),
         },
     }
 }
@@ -326,34 +264,13 @@ fn leaps(p: &mut CounterParts, n: u64) -> Rises
     rises
 }
 
-/// Takes `n` pulses that aren't all quiet. It stays out of the way of the calls that don't need it.
-#[cold]
-#[inline(never)]
-fn take_loud_pulses(p: &mut CounterParts, n: u64) -> Rises
-    requires { IsCounter p.old }
-    ensures { HasTaken n p.old p.new result }
-{
-    if !is_dividing(p) || height(p) > n {
-        return leaps(p, n);
-    }
-    let periods = rate_periods(*p, n);
-    *p = periods.parts;
-    let rest = n - periods.pulses;
-    if glide(p, rest) {
-        return periods.rises;
-    }
-    let later = leaps(p, rest);
-    joined(periods.rises, periods.pulses, later)
-}
-
 /// Takes `n` pulses.
-#[inline(always)]
 pub fn take_pulses(p: &mut CounterParts, n: u64) -> Rises
     requires { IsCounter p.old }
     ensures { HasTaken n p.old p.new result }
 {
-    if glide(p, n) {
-        return NONE;
+    if is_halving(p) {
+        return take_square(p, n);
     }
-    take_loud_pulses(p, n)
+    leaps(p, n)
 }

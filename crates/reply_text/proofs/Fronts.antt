@@ -95,14 +95,55 @@ byte_at pre f post text x k end is at within =
           ∙ set_at (pre ++ f) x post y k long ∙ sym (parts y),
     )
 
+-- the last two digits of a number that ends in a 9, and of one more
+last_two : (n : ℕ) → 10 ≤ n → n < 2 ^ 64 → n % 10 ≡ 9
+    → (f : List ℕ) × (decimal n ≡ f ++ (48 + n / 10 % 10) ∷ 57 ∷ [])
+    × (n / 10 % 10 < 9 → n + 1 < 2 ^ 64 → decimal (n + 1) ≡ f ++ (49 + n / 10 % 10) ∷ 48 ∷ [])
+last_two n least fits nine =
+    let tens = last_digit (n / 10) (omega arith) in
+    let f : List ℕ = tens.0 in
+    let digit : 48 + n % 10 ≡ 57 = omega arith in (
+      f,
+      decimal_step n least fits ∙ ap (λ (x : ℕ). decimal (n / 10) ++ x ∷ []) digit
+          ∙ ap (λ (t : List ℕ). t ++ 57 ∷ []) tens.1 ∙ append_assoc f ((48 + n / 10 % 10) ∷ []) (57 ∷ []),
+      λ low fits'.
+          let high : (n + 1) / 10 ≡ n / 10 + 1 = omega arith in
+          let zero : 48 + (n + 1) % 10 ≡ 48 = omega arith in
+          decimal_step (n + 1) (omega arith) fits' ∙ ap (λ (m : ℕ). decimal m ++ (48 + (n + 1) % 10) ∷ []) high
+          ∙ ap (λ (x : ℕ). decimal (n / 10 + 1) ++ x ∷ []) zero
+          ∙ ap (λ (t : List ℕ). t ++ 48 ∷ []) (tens.2 low (omega arith)) ∙ append_assoc f ((49 + n / 10 % 10) ∷ []) (48 ∷ []),
+    )
+
+-- two bytes among others, and others in their places
+two_at : (pre f post text : List ℕ) (x y k end : ℕ) → take end text ≡ pre ++ ((f ++ x ∷ y ∷ []) ++ post)
+    → length pre + length f ≡ k → k + 1 < end
+    → (get_or text k 0 ≡ x)
+    × ((u v : ℕ) → take end (set (set text (k + 1) v) k u) ≡ pre ++ ((f ++ u ∷ v ∷ []) ++ post))
+two_at pre f post text x y k end is at within =
+    let apart : (u v : ℕ) → (f ++ u ∷ v ∷ []) ++ post ≡ (f ++ u ∷ []) ++ v ∷ post = λ (u v : ℕ).
+    append_assoc f (u ∷ v ∷ []) post ∙ sym (append_assoc f (u ∷ []) (v ∷ post)) in
+    let first = byte_at pre f (y ∷ post) text x k end (is ∙ ap (λ (t : List ℕ). pre ++ t) (apart x y)) at (omega arith) in
+    let second = byte_at pre (f ++ x ∷ []) post text y (k + 1) end
+    (is ∙ ap (λ (t : List ℕ). pre ++ (t ++ post)) (sym (append_assoc f (x ∷ []) (y ∷ []))))
+    (omega (arith, length-append f (x ∷ []))) within in (
+      first.0,
+      λ u v.
+          (byte_at pre f (v ∷ post) (set text (k + 1) v) x k end
+          (second.1 v ∙ ap (λ (t : List ℕ). pre ++ t) (append_assoc (f ++ x ∷ []) (v ∷ []) post)) at (omega arith)).1 u
+          ∙ ap (λ (t : List ℕ). pre ++ t) (sym (apart u v)),
+    )
+
 -- how long a number is by its last digit
 length_by_last : (n x : ℕ) (f : List ℕ) → decimal n ≡ f ++ x ∷ [] → length (decimal n) ≡ length f + 1
 length_by_last n x f e = ap length e ∙ length-append f (x ∷ [])
 
+length_by_two : (n x y : ℕ) (f : List ℕ) → decimal n ≡ f ++ x ∷ y ∷ [] → length (decimal n) ≡ length f + 2
+length_by_two n x y f e = ap length e ∙ length-append f (x ∷ y ∷ [])
+
 -- the line counts up where its last digit isn't 9
 pub line_counted : (line number start end : ℕ) (text : List ℕ) → IsFront line number start end text → length text ≡ 96
     → line < 2 ^ 64
-    → (get_or text 19 0 < 58)
+    → (get_or text 19 0 ≡ 48 + line % 10)
     × (get_or text 19 0 ≢ 57 → line + 1 < 2 ^ 64 → IsFront (line + 1) number start end (set text 19 (get_or text 19 0 + 1)))
 line_counted line number start end text front room fits =
     let last = last_digit line fits in
@@ -115,7 +156,7 @@ line_counted line number start end text front room fits =
     let byte = byte_at (take start text) f (32 ∷ decimal number) text (48 + line % 10) 19 end
     (front.written ∙ ap (λ (ds : List ℕ). take start text ++ (ds ++ 32 ∷ decimal number)) digits) (omega arith) (omega arith) in
     let is : get_or text 19 0 ≡ 48 + line % 10 = byte.0 in (
-      omega arith,
+      is,
       λ low fits'.
           let next : decimal (line + 1) ≡ f ++ (49 + line % 10) ∷ [] = last.2 (omega arith) fits' in
           let long' : length (decimal (line + 1)) ≡ length f + 1 = length_by_last (line + 1) (49 + line % 10) f next in
@@ -133,6 +174,37 @@ line_counted line number start end text front room fits =
           },
     )
 
+-- .. and by its last two where it ends in a 9 after another digit
+line_carried : (line number start end : ℕ) (text : List ℕ) → IsFront line number start end text → length text ≡ 96
+    → line + 1 < 2 ^ 64 → 10 ≤ line → line % 10 ≡ 9
+    → get_or text 18 0 ≢ 57
+    → IsFront (line + 1) number start end (set (set text 19 48) 18 (get_or text 18 0 + 1))
+line_carried line number start end text front room fits least nine low =
+    let last = last_two line least (omega arith) nine in
+    let f : List ℕ = last.0 in
+    let tens : ℕ = line / 10 % 10 in
+    let digits : decimal line ≡ f ++ (48 + tens) ∷ 57 ∷ [] = last.1 in
+    let long : length (decimal line) ≡ length f + 2 = length_by_two line (48 + tens) 57 f digits in
+    let start_is = front.start_is in
+    let end_is = front.end_is in
+    let before : length (take start text) ≡ start = length-take-le start text (omega arith) in
+    let bytes = two_at (take start text) f (32 ∷ decimal number) text (48 + tens) 57 18 end
+    (front.written ∙ ap (λ (ds : List ℕ). take start text ++ (ds ++ 32 ∷ decimal number)) digits) (omega arith) (omega arith) in
+    let is : get_or text 18 0 ≡ 48 + tens = bytes.0 in
+    let next : decimal (line + 1) ≡ f ++ (49 + tens) ∷ 48 ∷ [] = last.2 (omega arith) fits in
+    let long' : length (decimal (line + 1)) ≡ length f + 2 = length_by_two (line + 1) (49 + tens) 48 f next in
+    let up : get_or text 18 0 + 1 ≡ 49 + tens = omega arith in
+    record {
+      start_is = omega arith;
+      end_is = end_is;
+      short = front.short;
+      written = bytes.1 (get_or text 18 0 + 1) 48
+          ∙ ap (λ (x : ℕ). take start text ++ ((f ++ x ∷ 48 ∷ []) ++ 32 ∷ decimal number)) up
+          ∙ ap (λ (ds : List ℕ). take start text ++ (ds ++ 32 ∷ decimal number)) (sym next)
+          ∙ ap (λ (p : List ℕ). p ++ (decimal (line + 1) ++ 32 ∷ decimal number))
+          (sym (take-set-le start (set text 19 48) 18 (get_or text 18 0 + 1) (omega arith) ∙ take-set-le start text 19 48 (omega arith)));
+    }
+
 -- the number after what is before it
 apart : (pre line number : List ℕ) → pre ++ (line ++ 32 ∷ number) ≡ (pre ++ (line ++ 32 ∷ [])) ++ number
 apart pre line number = sym (append_assoc pre (line ++ 32 ∷ []) number ∙ ap (λ (t : List ℕ). pre ++ t) (append_assoc line (32 ∷ []) number))
@@ -148,7 +220,7 @@ length_before line number start end text front room =
 -- the number counts up where its last digit isn't 9
 pub number_counted : (line number start end : ℕ) (text : List ℕ) → IsFront line number start end text → length text ≡ 96
     → number < 2 ^ 64
-    → (get_or text (end - 1) 0 < 58)
+    → (get_or text (end - 1) 0 ≡ 48 + number % 10)
     × (get_or text (end - 1) 0 ≢ 57 → number + 1 < 2 ^ 64
     → IsFront line (number + 1) start end (set text (end - 1) (get_or text (end - 1) 0 + 1)))
 number_counted line number start end text front room fits =
@@ -167,7 +239,7 @@ number_counted line number start end text front room fits =
     (front.written ∙ ap (λ (ds : List ℕ). take start text ++ (decimal line ++ 32 ∷ ds)) digits
     ∙ whole (f ++ (48 + number % 10) ∷ [])) (omega arith) (omega arith) in
     let is : get_or text at 0 ≡ 48 + number % 10 = byte.0 in (
-      omega arith,
+      is,
       λ low fits'.
           let next : decimal (number + 1) ≡ f ++ (49 + number % 10) ∷ [] = last.2 (omega arith) fits' in
           let long' : length (decimal (number + 1)) ≡ length f + 1 = length_by_last (number + 1) (49 + number % 10) f next in
@@ -185,6 +257,46 @@ number_counted line number start end text front room fits =
           },
     )
 
+-- .. and by its last two
+number_carried : (line number start end : ℕ) (text : List ℕ) → IsFront line number start end text → length text ≡ 96
+    → number + 1 < 2 ^ 64 → 10 ≤ number → number % 10 ≡ 9
+    → get_or text (end - 1 - 1) 0 ≢ 57
+    → IsFront line (number + 1) start end (set (set text (end - 1) 48) (end - 1 - 1) (get_or text (end - 1 - 1) 0 + 1))
+number_carried line number start end text front room fits least nine low =
+    let last = last_two number least (omega arith) nine in
+    let f : List ℕ = last.0 in
+    let tens : ℕ = number / 10 % 10 in
+    let digits : decimal number ≡ f ++ (48 + tens) ∷ 57 ∷ [] = last.1 in
+    let long : length (decimal number) ≡ length f + 2 = length_by_two number (48 + tens) 57 f digits in
+    let start_is = front.start_is in
+    let end_is = front.end_is in
+    let pre : List ℕ = take start text ++ (decimal line ++ 32 ∷ []) in
+    let before : length pre ≡ 21 = length_before line number start end text front room in
+    let at : ℕ = end - 1 - 1 in
+    let place : end - 1 ≡ at + 1 = omega arith in
+    let whole : (ds : List ℕ) → take start text ++ (decimal line ++ 32 ∷ ds) ≡ pre ++ (ds ++ []) = λ (ds : List ℕ).
+    apart (take start text) (decimal line) ds ∙ ap (λ (t : List ℕ). pre ++ t) (sym (append-nil ds)) in
+    let bytes = two_at pre f [] text (48 + tens) 57 at end
+    (front.written ∙ ap (λ (ds : List ℕ). take start text ++ (decimal line ++ 32 ∷ ds)) digits
+    ∙ whole (f ++ (48 + tens) ∷ 57 ∷ [])) (omega arith) (omega arith) in
+    let is : get_or text at 0 ≡ 48 + tens = bytes.0 in
+    let next : decimal (number + 1) ≡ f ++ (49 + tens) ∷ 48 ∷ [] = last.2 (omega arith) fits in
+    let long' : length (decimal (number + 1)) ≡ length f + 2 = length_by_two (number + 1) (49 + tens) 48 f next in
+    let up : get_or text at 0 + 1 ≡ 49 + tens = omega arith in
+    record {
+      start_is = start_is;
+      end_is = omega arith;
+      short = front.short;
+      written = ap (λ (k : ℕ). take end (set (set text k 48) at (get_or text at 0 + 1))) place
+          ∙ bytes.1 (get_or text at 0 + 1) 48
+          ∙ ap (λ (x : ℕ). pre ++ ((f ++ x ∷ 48 ∷ []) ++ [])) up
+          ∙ ap (λ (ds : List ℕ). pre ++ (ds ++ [])) (sym next)
+          ∙ sym (whole (decimal (number + 1)))
+          ∙ ap (λ (p : List ℕ). p ++ (decimal line ++ 32 ∷ decimal (number + 1)))
+          (sym (take-set-le start (set text (end - 1) 48) at (get_or text at 0 + 1) (omega arith)
+          ∙ take-set-le start text (end - 1) 48 (omega arith)));
+    }
+
 -- each is one more by its last digit
 pub line_up : (line line' number start end : ℕ) (text new : List ℕ) → IsFront line number start end text → length text ≡ 96
     → line' < 2 ^ 64 → line + 1 ≡ line' → get_or text 19 0 ≢ 57 → new ≡ set text 19 (get_or text 19 0 + 1)
@@ -197,6 +309,23 @@ pub number_up : (line number number' start end : ℕ) (text new : List ℕ) → 
     → IsFront line number' start end new
 number_up line number number' start end text new front room fits next digit is =
     rw (← next, is) ((number_counted line number start end text front room (omega arith)).1 digit (omega arith))
+
+-- .. or by its last two
+pub line_over : (line line' number start end : ℕ) (text new : List ℕ) → IsFront line number start end text → length text ≡ 96
+    → line' < 2 ^ 64 → line + 1 ≡ line' → 10 ≤ line → get_or text 19 0 ≡ 57 → get_or text 18 0 ≢ 57
+    → new ≡ set (set text 19 48) 18 (get_or text 18 0 + 1)
+    → IsFront line' number start end new
+line_over line line' number start end text new front room fits next least nine low is =
+    let digit : get_or text 19 0 ≡ 48 + line % 10 = (line_counted line number start end text front room (omega arith)).0 in
+    rw (← next, is) (line_carried line number start end text front room (omega arith) least (omega arith) low)
+
+pub number_over : (line number number' start end : ℕ) (text new : List ℕ) → IsFront line number start end text → length text ≡ 96
+    → number' < 2 ^ 64 → number + 1 ≡ number' → 10 ≤ number → get_or text (end - 1) 0 ≡ 57 → get_or text (end - 1 - 1) 0 ≢ 57
+    → new ≡ set (set text (end - 1) 48) (end - 1 - 1) (get_or text (end - 1 - 1) 0 + 1)
+    → IsFront line number' start end new
+number_over line number number' start end text new front room fits next least nine low is =
+    let digit : get_or text (end - 1) 0 ≡ 48 + number % 10 = (number_counted line number start end text front room (omega arith)).0 in
+    rw (← next, is) (number_carried line number start end text front room (omega arith) least (omega arith) low)
 
 -- another line in front of the number
 pub line_written : (line line' number start end r : ℕ) (text new : List ℕ) → IsFront line number start end text
@@ -251,6 +380,20 @@ number_written line number number' start end end' text new front room place few 
           ∙ sym (apart (take start text) (decimal line) (decimal number'))
           ∙ ap (λ (p : List ℕ). p ++ (decimal line ++ 32 ∷ decimal number')) (sym same);
     }
+
+-- the digits of the line before their place
+pub front_line : (line number start end : ℕ) (text : List ℕ) → IsFront line number start end text → length text ≡ 96
+    → drop start (take 20 text) ≡ decimal line
+front_line line number start end text front room =
+    let start_is = front.start_is in
+    let end_is = front.end_is in
+    let front_long : length (take start text) ≡ start = length-take-le start text (omega arith) in
+    let line_end : length (take start text ++ decimal line) ≡ 20 = omega (arith, length-append (take start text) (decimal line)) in
+    ap (drop start)
+    (sym (take-take 20 end text (omega arith))
+    ∙ ap (take 20) (front.written ∙ sym (append_assoc (take start text) (decimal line) (32 ∷ decimal number)))
+    ∙ take_at (take start text ++ decimal line) (32 ∷ decimal number) 20 line_end)
+    ∙ drop_at (take start text) (decimal line) start front_long
 
 -- what follows a front makes a line of it
 pub line_after : (line number start end at : ℕ) (text new words : List ℕ) → IsFront line number start end text

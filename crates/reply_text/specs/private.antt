@@ -1,4 +1,5 @@
 -- What proofs and private contracts alone cite.
 pub mod Appended
+pub mod Eight
 pub mod Front
 pub mod Readings

@@ -6,9 +6,12 @@ ghost use Rattle.std.specs.Prelude.{
   ◌<◌,
   ◌≤◌,
   ◌++◌,
+  [],
+  ◌∷◌,
   length,
   take,
   drop,
+  codes,
   decimal,
   OnOk,
   OnErr,
@@ -60,9 +63,7 @@ pub fn clock_line(line: u64, reply: &ClockReply, out: &mut Vec<u8>) -> Result<()
 {
     let mut text = [0; ROOM];
     let start = put_front(line, &mut text);
-    let at = put_word(b" clock ", &mut text, DIGITS);
-    let at = put_reading(reply, &mut text, at);
-    let end = put_byte(b'\n', &mut text, at);
+    let end = put_clock(reply, &mut text);
     append_line(&text, start, end, out)
 }
 
@@ -74,6 +75,19 @@ fn put_front(line: u64, text: &mut [u8; ROOM]) -> usize
     ensures room { length text.new ≡ ROOM }
 {
     write_digits(line, text, DIGITS)
+}
+
+/// Puts the words of a clock reading's line after that of its record, and the line's end, and returns where the line ends.
+#[inline(always)]
+pub(crate) fn put_clock(reply: &ClockReply, text: &mut [u8; ROOM]) -> usize
+    ensures within { (DIGITS ≤ result) × (result ≤ ROOM) }
+    ensures written { take result text.new
+        ≡ take DIGITS text.old ++ (codes " clock " ++ (reading_text reply.now ++ 10 ∷ [])) }
+    ensures room { length text.new ≡ ROOM }
+{
+    let at = put_word(b" clock ", text, DIGITS);
+    let at = put_reading(reply, text, at);
+    put_byte(b'\n', text, at)
 }
 
 /// Puts the last words of a clock reading's line at a place, and returns where they end.

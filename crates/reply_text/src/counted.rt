@@ -2,6 +2,7 @@
 ghost use Rattle.std.specs.Prelude.{
   ◌≡◌,
   ◌+◌,
+  ◌-◌,
   ◌<◌,
   ◌≤◌,
   ◌++◌,
@@ -18,13 +19,15 @@ ghost use Rattle.std.specs.Prelude.{
 };
 ghost use Rattle.std.specs.Bool.{OnTrue, OnFalse};
 ghost use Rattle.reply_text.specs.Words.{spaced};
-ghost use Rattle.reply_text.specs.Text.{value_text, value_words};
+ghost use Rattle.reply_text.specs.Text.{value_text, value_words, clock_text};
 
+use crate::clock::put_clock;
 use crate::forward::{DIGITS, ROOM, append_line, put_byte, put_hex, put_number};
 use crate::replies::value_line;
 use board_types::{Reply, Value};
 use clk_units::NoMemory;
 use itoa::write_digits;
+use pvclock_page::ClockReply;
 use std::marker::Model;
 
 /// The beginning of the last reply's line, which is kept for the next: the line of the record and the number of the
@@ -96,20 +99,74 @@ impl CountedLines {
         self.append_value(&reply.value, out)
     }
 
-    /// Whether each number is one more than the last and changes only its last digit; then they are these now.
+    /// The line of a clock reading, as `clock_line` has it. The number of an access stays.
+    pub fn clock_line(
+        &mut self,
+        line: u64,
+        reply: &ClockReply,
+        out: &mut Vec<u8>,
+    ) -> Result<(), NoMemory>
+        ensures ok { OnOk result (out.new.items ≡ out.old.items ++ clock_text line reply.now) }
+        ensures err { OnErr result (out.new.items ≡ out.old.items) }
+        ensures full { OnErr result (vec_capacity out.old
+            < vec_len out.old + length (clock_text line reply.now)) }
+    {
+        self.go_to_line(line);
+        let mut text = self.text;
+        let end = put_clock(reply, &mut text);
+        append_line(&text, self.start, end, out)
+    }
+
+    /// The line of the record is this now, most likely one more than the last.
+    #[inline(always)]
+    fn go_to_line(&mut self, line: u64)
+        ensures { self.new ≡ (line, self.old.1) }
+    {
+        if !self.line_counts_to(line) {
+            self.write_line(line);
+        }
+    }
+
+    /// Whether each number is one more than the last, and changes only its last digit or two; then they are these now.
     #[inline(always)]
     fn counts_to(&mut self, line: u64, number: u64) -> bool
         ensures { OnTrue result (self.new ≡ (line, number)) }
     {
-        if !counts_up(self.line, line, &mut self.text, DIGITS - 1) {
-            return false;
+        self.line_counts_to(line) && self.number_counts_to(number)
+    }
+
+    /// The same of the line of the record.
+    #[inline(always)]
+    fn line_counts_to(&mut self, line: u64) -> bool
+        ensures counts { OnTrue result (self.new ≡ (line, self.old.1)) }
+        ensures still { OnFalse result (self.new ≡ self.old) }
+    {
+        if counts_up(self.line, line, &mut self.text, DIGITS - 1) {
+            self.line = line;
+            return true;
         }
-        self.line = line;
-        if !counts_up(self.number, number, &mut self.text, self.end - 1) {
-            return false;
+        if carries(self.line, line, &mut self.text, DIGITS - 1) {
+            self.line = line;
+            return true;
         }
-        self.number = number;
-        true
+        false
+    }
+
+    /// .. and of the number of the access.
+    #[inline(always)]
+    fn number_counts_to(&mut self, number: u64) -> bool
+        ensures counts { OnTrue result (self.new ≡ (self.old.0, number)) }
+        ensures still { OnFalse result (self.new ≡ self.old) }
+    {
+        if counts_up(self.number, number, &mut self.text, self.end - 1) {
+            self.number = number;
+            return true;
+        }
+        if carries(self.number, number, &mut self.text, self.end - 1) {
+            self.number = number;
+            return true;
+        }
+        false
     }
 
     /// The numbers are these now, whatever they were.
@@ -121,7 +178,8 @@ impl CountedLines {
         self.number = number;
     }
 
-    /// The line of the record is this now.
+    /// The same, whatever it was. It is apart from where a line counts up.
+    #[inline(never)]
     fn write_line(&mut self, line: u64)
         ensures { self.new ≡ (line, self.old.1) }
     {
@@ -161,6 +219,31 @@ fn counts_up(before: u64, n: u64, text: &mut [u8; ROOM], last: usize) -> bool
         return false;
     }
     text[last] += 1;
+    true
+}
+
+/// Whether a number is one more than another that ends in a 9 after a digit that isn't one; then it is one more, too.
+#[inline(always)]
+fn carries(before: u64, n: u64, text: &mut [u8; ROOM], last: usize) -> bool
+    requires some { 0 < last }
+    requires within { last < ROOM }
+    ensures counts { OnTrue result (before + 1 ≡ n) }
+    ensures long { OnTrue result (10 ≤ before) }
+    ensures nine { OnTrue result (slice_index text.old last ≡ 57) }
+    ensures low { OnTrue result (slice_index text.old (last - 1) ≢ 57) }
+    ensures up { OnTrue result (text.new
+        ≡ set (set text.old last 48) (last - 1) (slice_index text.old (last - 1) + 1)) }
+    ensures still { OnFalse result (text.new ≡ text.old) }
+{
+    if n <= before || n - before != 1 || before < 10 {
+        return false;
+    }
+    let tens = text[last - 1];
+    if text[last] != b'9' || tens >= b'9' {
+        return false;
+    }
+    text[last] = b'0';
+    text[last - 1] = tens + 1;
     true
 }
 

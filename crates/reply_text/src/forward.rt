@@ -20,9 +20,8 @@ ghost use Rattle.std.specs.Prelude.{
 };
 ghost use Rattle.reply_text.specs.Words.{hex_text};
 
-use crate::digits::write_hex;
+use crate::digits::{write_hex, write_number};
 use clk_units::NoMemory;
-use itoa::write_digits;
 
 /// The bytes of a line, and as many after it as are copied at once.
 pub(crate) const ROOM: usize = 96;
@@ -71,7 +70,7 @@ pub(crate) fn put_number(n: u64, text: &mut [u8; ROOM], at: usize) -> usize
     ensures written { take result text.new ≡ take at text.old ++ decimal n }
 {
     let mut digits = [0; 2 * DIGITS];
-    let start = write_digits(n, &mut digits, DIGITS);
+    let start = write_number(n, &mut digits, DIGITS);
     put_digits(&digits, start, text, at)
 }
 
@@ -83,7 +82,7 @@ pub(crate) fn put_number_twice(n: u64, text: &mut [u8; ROOM], at: usize) -> usiz
     ensures written { take result text.new ≡ take at text.old ++ (decimal n ++ 32 ∷ decimal n) }
 {
     let mut digits = [0; 2 * DIGITS];
-    let start = write_digits(n, &mut digits, DIGITS);
+    let start = write_number(n, &mut digits, DIGITS);
     let at = put_digits(&digits, start, text, at);
     let at = put_byte(b' ', text, at);
     put_digits(&digits, start, text, at)

@@ -29,14 +29,13 @@ ghost use Rattle.reply_text.specs.Text.{
   value_words,
 };
 
-use crate::digits::write_text;
+use crate::digits::{write_number, write_text};
 use crate::forward::{ROOM, append_line, put_byte, put_hex, put_small, put_word};
 use crate::tail::Tail;
 use board_types::{Reply, Value};
 use clk_units::NoMemory;
 use edge_hooks::{Delivery, Sent};
 use irq_edges::Edge;
-use itoa::write_digits;
 
 /// The line of a board's reply: the line of the record, the number of the access, and its value where it has one.
 pub fn board_line(line: u64, reply: &Reply, out: &mut Vec<u8>) -> Result<(), NoMemory>
@@ -98,6 +97,7 @@ const PLACE: usize = 25;
 
 /// The line of an edge: its nanosecond, its line and its direction; with a delivery also the processor and the
 /// vector that the rise goes to. A fall has none.
+#[inline(always)]
 pub fn edge_line(edge: &Edge, to: Option<Delivery>, out: &mut Vec<u8>) -> Result<(), NoMemory>
     requires { OnSome to (IsTrue edge.now.up) }
     ensures ok { OnOk result (out.new.items ≡ out.old.items ++ edge_text edge.now to) }
@@ -118,7 +118,7 @@ fn put_time(at: u64, text: &mut [u8; ROOM]) -> usize
     ensures written { drop result (take PLACE text.new) ≡ codes "edge " ++ decimal at }
     ensures room { length text.new ≡ ROOM }
 {
-    let start = write_digits(at, text, PLACE);
+    let start = write_number(at, text, PLACE);
     write_text(b"edge ", text, start)
 }
 

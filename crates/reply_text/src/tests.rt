@@ -119,11 +119,45 @@ fn counted_lines_are_whole_lines(rt: HostRuntime) -> Result<(), Fail> {
     Ok(())
 }
 
+/// The lines of clock readings between lines of replies, each with the line of its own record.
+#[test]
+fn counted_clock_lines_are_whole_lines(rt: HostRuntime) -> Result<(), Fail> {
+    let mut out = Vec::new(rt.alloc());
+    let mut wanted = Vec::new(rt.alloc());
+    let mut lines = CountedLines::new();
+    let mut reply = Reply::empty();
+    for (line, reading, clock) in [
+        (0u64, 7u64, 7u64),
+        (1, 1000, 1200),
+        (8, 99_999_999, 99_999_999),
+        (9, 100_000_000, 100_000_000),
+        (10, 123_456_789_012, 123_456_789_013),
+        (9, u64::MAX, u64::MAX),
+    ] {
+        let read = ClockReply::On { reading, clock };
+        lines.clock_line(line, &read, &mut out)?;
+        clock_line(line, &read, &mut wanted)?;
+        reply.number = reading;
+        lines.board_line(line, &reply, &mut out)?;
+        board_line(line, &reply, &mut wanted)?;
+        lines.clock_line(line + 1, &ClockReply::Off, &mut out)?;
+        clock_line(line + 1, &ClockReply::Off, &mut wanted)?;
+    }
+    assert_eq!(rt; out.as_slice(), wanted.as_slice());
+    Ok(())
+}
+
 /// Processors, lines and vectors of one, two and three digits.
 #[test]
 fn edges_of_each_length(rt: HostRuntime) -> Result<(), Fail> {
     let mut out = Vec::new(rt.alloc());
-    for (cpu, line, at) in [(9, 0, 0), (10, 23, 99_999), (255, 100, u64::MAX)] {
+    for (cpu, line, at) in [
+        (9, 0, 0),
+        (10, 23, 99_999),
+        (100, 8, 100_000_000),
+        (200, 20, 70_123_000_456),
+        (255, 100, u64::MAX),
+    ] {
         let to = Delivery { cpu, vector: 0xfe };
         edge_line(&Edge { at, line, up: true }, Some(to), &mut out)?;
         edge_line(
@@ -137,6 +171,7 @@ fn edges_of_each_length(rt: HostRuntime) -> Result<(), Fail> {
         )?;
     }
     let wanted = b"edge 0 0 up 9 fe\nedge 0 0 down\nedge 99999 23 up 10 fe\nedge 99999 23 down\n\
+edge 100000000 8 up 100 fe\nedge 100000000 8 down\nedge 70123000456 20 up 200 fe\nedge 70123000456 20 down\n\
 edge 18446744073709551615 100 up 255 fe\nedge 18446744073709551615 100 down\n";
     assert_eq!(rt; out.as_slice(), wanted.as_slice());
     Ok(())

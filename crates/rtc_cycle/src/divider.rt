@@ -137,6 +137,14 @@ impl Divider {
             first_update: updates.first,
         }
     }
+
+    /// Which of `n` pulses, counted from 1, brings the first periodic event, without taking them.
+    pub fn first_tick(&self, n: u64) -> Option<u64>
+        ensures { IsFirst (ticks_in self.now) n result }
+    {
+        stretch::ticks(self.parts, n).first
+    }
+
     /// Whether the divider is held: no pulse moves it or brings an event.
     #[inline(always)]
     pub fn is_held(&self) -> bool

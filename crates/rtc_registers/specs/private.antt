@@ -1,2 +1,3 @@
 -- What only proofs and bodies need.
 pub mod Stretch
+pub mod Taken

@@ -133,6 +133,13 @@ impl Rtc {
         stretch::pulses(&mut self.parts, n)
     }
 
+    /// Which of `n` pulses of the crystal, counted from 1, brings the first periodic event, without taking them.
+    pub fn first_tick(&self, n: u64) -> Option<u64>
+        ensures { IsFirst (ticks_in (divider_of self.now)) n result }
+    {
+        registers::divider(&self.parts).first_tick(n)
+    }
+
     /// Lets `n` pulses of the crystal pass, as `pulses` does, for a caller that asks for no events: over most stretches it
     /// takes a few instructions.
     #[inline(always)]

@@ -1,6 +1,6 @@
 //! Many pulses at once: the divider after them, and what their events change.
 
-ghost use Rattle.std.specs.Prelude.{◌≡◌, ℕ, ◌+◌, ◌-◌, ◌*◌, ◌^◌, ◌<◌, ◌≤◌, ◌||◌, ◌⊎◌, Some, true};
+ghost use Rattle.std.specs.Prelude.{◌≡◌, ℕ, ◌+◌, ◌-◌, ◌*◌, ◌^◌, ◌<◌, ◌||◌, ◌⊎◌, Some, true};
 ghost use Rattle.std.specs.Option.{is_some};
 ghost use Rattle.clk_units.specs.Events.{IsFirst};
 ghost use Rattle.rtc_calendar.specs.Updates.{updated_times};
@@ -8,9 +8,10 @@ ghost use Rattle.rtc_calendar.specs.Alarms.{matches_in};
 ghost use Rattle.rtc_cycle.specs.Divider.{ticks_in, updates_in};
 ghost use Rattle.rtc_registers.specs.Access.{flagged};
 ghost use Rattle.rtc_registers.specs.Parts.{IsRtc};
-ghost use Rattle.rtc_registers.specs.Pulses.{moved, rtc_pulsed_times, alarms_in};
+ghost use Rattle.rtc_registers.specs.Pulses.{moved, rtc_pulsed_times};
 ghost use Rattle.rtc_registers.specs.Registers.{flags_byte, divider_of, pf_of};
 ghost use Rattle.rtc_registers.specs.Registers.{form_of, time_of, alarm_of};
+ghost use Rattle.rtc_registers.specs.private.Taken.{HasTaken};
 ghost use Rattle.rtc_registers.specs.private.Stretch.{second_apart, flags_left};
 
 use crate::events::RtcEvents;
@@ -104,14 +105,7 @@ fn take_ticks(r: &mut RtcParts, divider: DividerParts)
 #[inline(always)]
 fn take_pulses(r: &mut RtcParts, n: u64) -> RtcEvents
     requires { IsRtc r.old }
-    ensures state { r.new ≡ rtc_pulsed_times n r.old }
-    ensures ticks { result.cycle.ticks ≡ ticks_in (divider_of r.old) n }
-    ensures few_ticks { result.cycle.ticks ≤ n }
-    ensures first_tick { IsFirst (ticks_in (divider_of r.old)) n result.cycle.first_tick }
-    ensures updates { result.cycle.updates ≡ updates_in (divider_of r.old) n }
-    ensures few_updates { result.cycle.updates ≤ n }
-    ensures first_update { IsFirst (updates_in (divider_of r.old)) n result.cycle.first_update }
-    ensures first_alarm { IsFirst (alarms_in r.old) n result.first_alarm }
+    ensures { HasTaken n r.old r.new result }
 {
     if n == 0 {
         return RtcEvents::NONE;
@@ -151,14 +145,7 @@ pub(crate) fn is_quiet(r: &RtcParts, n: u64) -> bool
 #[inline(never)]
 fn pulses_with_events(r: &mut RtcParts, n: u64) -> RtcEvents
     requires { IsRtc r.old }
-    ensures state { r.new ≡ rtc_pulsed_times n r.old }
-    ensures ticks { result.cycle.ticks ≡ ticks_in (divider_of r.old) n }
-    ensures few_ticks { result.cycle.ticks ≤ n }
-    ensures first_tick { IsFirst (ticks_in (divider_of r.old)) n result.cycle.first_tick }
-    ensures updates { result.cycle.updates ≡ updates_in (divider_of r.old) n }
-    ensures few_updates { result.cycle.updates ≤ n }
-    ensures first_update { IsFirst (updates_in (divider_of r.old)) n result.cycle.first_update }
-    ensures first_alarm { IsFirst (alarms_in r.old) n result.first_alarm }
+    ensures { HasTaken n r.old r.new result }
 {
     take_pulses(r, n)
 }
@@ -167,14 +154,7 @@ fn pulses_with_events(r: &mut RtcParts, n: u64) -> RtcEvents
 #[inline(always)]
 pub(crate) fn pulses(r: &mut RtcParts, n: u64) -> RtcEvents
     requires { IsRtc r.old }
-    ensures state { r.new ≡ rtc_pulsed_times n r.old }
-    ensures ticks { result.cycle.ticks ≡ ticks_in (divider_of r.old) n }
-    ensures few_ticks { result.cycle.ticks ≤ n }
-    ensures first_tick { IsFirst (ticks_in (divider_of r.old)) n result.cycle.first_tick }
-    ensures updates { result.cycle.updates ≡ updates_in (divider_of r.old) n }
-    ensures few_updates { result.cycle.updates ≤ n }
-    ensures first_update { IsFirst (updates_in (divider_of r.old)) n result.cycle.first_update }
-    ensures first_alarm { IsFirst (alarms_in r.old) n result.first_alarm }
+    ensures { HasTaken n r.old r.new result }
 {
     let divider = registers::divider(r);
     if divider.is_held() {

@@ -20,7 +20,7 @@ use crate::status::{Verdict, refuse, refuse_access, refused_time};
 use board_core::{Access, Reply};
 use clk_units::NoMemory;
 use race_phase::{Deliveries, NewHost, access_block};
-use reply_text::{CountedLines, clock_line, hv_line, page_line};
+use reply_text::{CountedLines, hv_line, page_line};
 use trace_text::{Call, Job, Record};
 
 impl Replay {
@@ -151,7 +151,7 @@ impl Replay {
         let board = &mut self.board;
         match board.state.clock_of(page, h) {
             Ok(reply) => {
-                clock_line(line, &reply, out)?;
+                board.lines.clock_line(line, &reply, out)?;
                 Ok(())
             }
             Err(fault) => refuse(line, refused_time(fault), out, end),

@@ -1,5 +1,5 @@
 -- The usual rows of the table of records, by the bytes that they begin with.
-use Rattle.std.proofs.Common.{◌≡◌, List, [], ℕ, ◌++◌, codes, Option, Some, None, IfSome, Result, Ok, sym, ◌∙◌, ap, refl}
+use Rattle.std.proofs.Common.{◌≡◌, List, [], ℕ, ◌++◌, codes, Option, Some, None, IfSome, Result, Ok, IsErr, sym, ◌∙◌, ap, refl}
 use Rattle.board_types.specs.declared.access.Access.TheVariants.{Ack, Step}
 use Rattle.reply_text.specs.declared.ends.Reason.{Reason}
 use Rattle.trace_text.specs.Tokens.{words_of}
@@ -28,6 +28,11 @@ ack_first body m = refl
 pub hr_first : (body : Body) (m : List ℕ) → job_of body (words_of (codes "hr " ++ m)) ≡ hr_row body (words_of m)
 unfolding job_of words_of
 hr_first body m = refl
+
+-- no words are no record's
+pub no_words : (body : Body) → IsErr (job_of body [])
+unfolding job_of
+no_words body = refl
 
 -- what the row of a name made of the words after it
 pub by_row : (row : List (List ℕ) → Result Job Reason) (body : Body) (name left more : List ℕ) (ws : List (List ℕ)) (r : Option Job)

@@ -217,41 +217,18 @@ fn short_spelling(line: &[u8], at: usize, from: usize, base: u64, read: u64) -> 
 }
 
 /// The number at a place of a line, if it is decimal, begins with another digit than zero, and has at most 16
-/// digits. One of two digits, as that of a processor, is read here.
+/// digits.
 #[inline(always)]
-pub(crate) fn few_digits_at(line: &[u8], at: usize) -> Option<Spelling>
-    requires { at ≤ length line.now + 1 }
+fn few_digits_at(line: &[u8], at: usize) -> Option<Spelling>
     ensures { IfSome result (λ s. (at < s.end) × (s.end ≤ length line.now)
         × (slice_index line.now at ≢ 48) × Spells 10 line.now at s.end s.value) }
 {
-    if let Some(value) = two_decimals_at(line, at) {
-        return Some(Spelling { value, end: at + 2 });
-    }
     let spelling = few_digits_apart(line, at);
     if spelling.end == 0 {
         None
     } else {
         Some(spelling)
     }
-}
-
-/// The number of the two decimal digits at a place of a line, if the first isn't a zero, and a space or the line's end
-/// follows.
-#[inline(always)]
-fn two_decimals_at(line: &[u8], at: usize) -> Option<u64>
-    requires { at ≤ length line.now + 1 }
-    ensures { IfSome result (λ n. (at + 2 ≤ length line.now) × (slice_index line.now at ≢ 48)
-        × Spells 10 line.now at (at + 2) n) }
-{
-    if line.len() < at + 2 || !ends_at(line, at + 2) {
-        return None;
-    }
-    let high = decimal_digit_of(line[at]);
-    let low = decimal_digit_of(line[at + 1]);
-    if high == 0 || high >= 10 || low >= 10 {
-        return None;
-    }
-    Some(10 * high + low)
 }
 
 /// The same, with an end of 0 for no such number. It is apart from where it is called, for numbers of a few digits, and
@@ -388,6 +365,25 @@ pub(crate) fn one_digit_at(line: &[u8], at: usize) -> Option<u64>
     }
     let digit = decimal_digit_of(line[at]);
     if digit < 10 { Some(digit) } else { None }
+}
+
+/// The number of the two decimal digits at a place of a line, if the first isn't a zero, and a space or the line's end
+/// follows.
+#[inline(always)]
+pub(crate) fn two_decimals_at(line: &[u8], at: usize) -> Option<u64>
+    requires { at ≤ length line.now + 1 }
+    ensures { IfSome result (λ n. (at + 2 ≤ length line.now) × (slice_index line.now at ≢ 48)
+        × Spells 10 line.now at (at + 2) n) }
+{
+    if line.len() < at + 2 || !ends_at(line, at + 2) {
+        return None;
+    }
+    let high = decimal_digit_of(line[at]);
+    let low = decimal_digit_of(line[at + 1]);
+    if high == 0 || high >= 10 || low >= 10 {
+        return None;
+    }
+    Some(10 * high + low)
 }
 
 /// The byte of the two hexadecimal digits at a place of a line, if a space or the line's end follows.

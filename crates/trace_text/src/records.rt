@@ -1,6 +1,7 @@
 //! Records: what a processor does at a host counter.
 ghost use Rattle.std.specs.Prelude.{◌≡◌, ◌<◌, ◌≤◌, Ok, IfOk, OnErr, IsErr, replicate};
 ghost use Rattle.std.specs.Bool.{OnTrue, OnFalse};
+ghost use Rattle.trace_text.specs.Tokens.{words_of};
 ghost use Rattle.trace_text.specs.Records.{
   job_of,
   record_of,
@@ -94,10 +95,7 @@ impl Body {
         ensures { IsReadInto self.old words.entry result into.new self.new }
     {
         let mut usual = words.again();
-        let Some(cpu) = usual.usual_dec() else {
-            return self.read_apart(words, into);
-        };
-        let Some(h) = usual.many_digits() else {
+        let Some((cpu, h)) = usual.cpu_and_counter() else {
             return self.read_apart(words, into);
         };
         if !read_job(self, usual, &mut into.job) {
@@ -157,29 +155,29 @@ fn read_job(body: &Body, words: Words<'_>, into: &mut Job) -> bool
     ensures cause { OnFalse result (IsErr (job_of body.now words.entry)) }
     ensures valid { OnTrue result (IsJob body.now into.new) }
 {
-    if let Some(left) = words.left()
-        && let Some(job) = usual_job(body, left)
-    {
+    let Some(left) = words.left() else {
+        return false;
+    };
+    if let Some(job) = usual_job(body, left) {
         *into = job;
         return true;
     }
-    read_job_apart(body, words.again(), into)
+    read_job_apart(body, left, into)
 }
 
-/// The same, apart from where it is called. A read of the HPET is read by its bytes, and the rest by its words.
+/// The same by the bytes after the counter, apart from where it is called. A read of the HPET is read by its bytes, and the
+/// rest by its words.
 #[inline(never)]
-fn read_job_apart(body: &Body, words: Words<'_>, into: &mut Job) -> bool
-    ensures job { OnTrue result (job_of body.now words.entry ≡ Ok into.new) }
-    ensures cause { OnFalse result (IsErr (job_of body.now words.entry)) }
+fn read_job_apart(body: &Body, left: &[u8], into: &mut Job) -> bool
+    ensures job { OnTrue result (job_of body.now (words_of left.now) ≡ Ok into.new) }
+    ensures cause { OnFalse result (IsErr (job_of body.now (words_of left.now))) }
     ensures valid { OnTrue result (IsJob body.now into.new) }
 {
-    if let Some(left) = words.left()
-        && let Some(job) = usual_read(body, left)
-    {
+    if let Some(job) = usual_read(body, left) {
         *into = job;
         return true;
     }
-    match job_in(body, words) {
+    match job_in(body, Words::new(left)) {
         Ok(job) => {
             *into = job;
             true

@@ -27,7 +27,8 @@ const OUT: u32 = 0x2074_756f;
 const CLOC: u32 = 0x636f_6c63;
 
 /// What most records do, by the bytes after the counter; None also for what others do. The first four of them tell which
-/// record it is, since each has as many. It is small, so that the answer to a line is inlined in the loop over the lines.
+/// record it is, since each has as many. How long each is is tested first: then none of its words needs a test of the line's
+/// end. It is small, so that the answer to a line is inlined in the loop over the lines.
 #[inline(always)]
 pub(crate) fn usual_job(body: &Body, left: &[u8]) -> Option<Job>
     ensures job { IfSome result (λ j. job_of body.now (words_of left.now) ≡ Ok j) }
@@ -38,14 +39,30 @@ pub(crate) fn usual_job(body: &Body, left: &[u8]) -> Option<Job>
     }
     let front = first_four(left);
     if front % 0x100_0000 == IN {
+        if left.len() != b"in 40".len() {
+            return None;
+        }
         return usual_in(body, &mut Words::new(&left[3..]));
     }
     match front {
         STEP => usual_step(&left[4..]),
-        ACK => usual_ack(body, &mut Words::new(&left[4..])),
-        OUT => usual_out(body, &mut Words::new(&left[4..])),
+        ACK => {
+            if left.len() != b"ack 0".len() {
+                return None;
+            }
+            usual_ack(body, &mut Words::new(&left[4..]))
+        }
+        OUT => {
+            if left.len() != b"out 43 34".len() {
+                return None;
+            }
+            usual_out(body, &mut Words::new(&left[4..]))
+        }
         CLOC => {
             let page = after(&left[4..], b"k ")?;
+            if page.len() > 2 {
+                return None;
+            }
             usual_clock(body, &mut Words::new(page))
         }
         _ => None,
@@ -67,6 +84,9 @@ pub(crate) fn usual_read(body: &Body, left: &[u8]) -> Option<Job>
     ensures job { IfSome result (λ j. job_of body.now (words_of left.now) ≡ Ok j) }
     ensures valid { IfSome result (IsJob body.now) }
 {
+    if left.len() != b"hr f0 8".len() {
+        return None;
+    }
     let place = after(left, b"hr ")?;
     usual_hr(body, &mut Words::new(place))
 }
@@ -142,13 +162,13 @@ fn usual_hr(body: &Body, words: &mut Words<'_>) -> Option<Job>
     Some(act(Access::HpetRead { offset, width }))
 }
 
-/// The line, if its number has few digits.
+/// The line, if its number has one digit.
 #[inline(always)]
 fn usual_ack(body: &Body, words: &mut Words<'_>) -> Option<Job>
     ensures job { IfSome result (λ j. line_row body.now Access.Ack words.old ≡ Ok j) }
     ensures valid { IfSome result (IsJob body.now) }
 {
-    let line = words.usual_dec()?;
+    let line = words.one_digit()?;
     if words.end().is_err() || line >= 0x100 || !is_line(line as u8) {
         return None;
     }
@@ -156,7 +176,7 @@ fn usual_ack(body: &Body, words: &mut Words<'_>) -> Option<Job>
     Some(act(Access::Ack { line }))
 }
 
-/// The page, if its number has few digits.
+/// The page, if its number has one digit or two.
 #[inline(always)]
 fn usual_clock(body: &Body, words: &mut Words<'_>) -> Option<Job>
     ensures job { IfSome result (λ j. page_row body.now Call.ReadClock words.old ≡ Ok j) }

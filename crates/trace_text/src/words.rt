@@ -43,8 +43,8 @@ ghost use Rattle.trace_text.specs.Rows.{last};
 ghost use Rattle.board_types.specs.Legal.{is_port};
 
 use crate::bytes::{
-    Number, decimal_at, end_of_word, few_digits_at, hexadecimal_at, is_zero, one_digit_at, port_at,
-    spelling_at, two_digits_at,
+    Number, decimal_at, end_of_word, hexadecimal_at, is_zero, one_digit_at, port_at, spelling_at,
+    two_decimals_at, two_digits_at,
 };
 use memchr::memchr;
 use reply_text::Reason;
@@ -105,7 +105,7 @@ impl<'a> Words<'a> {
     /// The bytes of the words that are left, if there are some.
     #[inline(always)]
     pub(crate) fn left(&self) -> Option<&'a [u8]>
-        ensures { IfSome result (λ left. self.now ≡ words_of left.now) }
+        ensures { MatchOption result (self.now ≡ []) (λ left. self.now ≡ words_of left.now) }
     {
         if self.at > self.line.len() {
             return None;
@@ -188,7 +188,7 @@ impl<'a> Words<'a> {
         Some(n)
     }
 
-    /// The next word as a DEC, which most likely has one digit, or a few.
+    /// The next word as a DEC, which most likely has one digit or two.
     #[inline(always)]
     pub(crate) fn short_dec(&mut self) -> Option<u64>
         ensures value { result ≡ dec self.old }
@@ -200,19 +200,19 @@ impl<'a> Words<'a> {
         }
     }
 
-    /// The next word as a DEC of at most 16 digits, most likely of a few; None also where it is another DEC.
+    /// The next word as a DEC of two digits; None where it is anything else, and then it stays.
     #[inline(always)]
-    fn few_digits(&mut self) -> Option<u64>
+    fn two_decimals(&mut self) -> Option<u64>
         ensures value { IfSome result (λ n. dec self.old ≡ Some n) }
         ensures past { OnSome result (self.new ≡ rest self.old) }
         ensures still { IfNone result (self.new ≡ self.old) }
     {
-        let spelling = few_digits_at(self.line, self.at)?;
-        self.at = spelling.end + 1;
-        Some(spelling.value)
+        let n = two_decimals_at(self.line, self.at)?;
+        self.at += 3;
+        Some(n)
     }
 
-    /// The same, most likely of many digits.
+    /// The next word as a DEC of at most 16 digits, most likely of many; None also where it is another DEC.
     #[inline(always)]
     pub(crate) fn many_digits(&mut self) -> Option<u64>
         ensures value { IfSome result (λ n. dec self.old ≡ Some n) }
@@ -224,7 +224,7 @@ impl<'a> Words<'a> {
         Some(spelling.value)
     }
 
-    /// The same, most likely of one digit.
+    /// The next word as a DEC of one digit or two, as that of a processor has; None also where it is another DEC.
     #[inline(always)]
     pub(crate) fn usual_dec(&mut self) -> Option<u64>
         ensures value { IfSome result (λ n. dec self.old ≡ Some n) }
@@ -233,8 +233,19 @@ impl<'a> Words<'a> {
     {
         match self.one_digit() {
             Some(digit) => Some(digit),
-            None => self.few_digits(),
+            None => self.two_decimals(),
         }
+    }
+
+    /// The next two words as DECs, a processor and a counter; None also for other DECs.
+    #[inline(always)]
+    pub(crate) fn cpu_and_counter(&mut self) -> Option<(u64, u64)>
+        ensures value { IfSome result (λ p. (dec self.old ≡ Some p.0) × (dec (rest self.old) ≡ Some p.1)) }
+        ensures past { OnSome result (self.new ≡ rest (rest self.old)) }
+    {
+        let cpu = self.usual_dec()?;
+        let counter = self.many_digits()?;
+        Some((cpu, counter))
     }
 
     /// The next word as two hexadecimal digits; None where it is anything else, and then it stays.

@@ -2,10 +2,10 @@
 //! The calls of the archive, as `c/clockboard.h` declares them.
 
 /// `CLOCKBOARD_ABI` of the header.
-pub const ABI: u32 = 7;
+pub const ABI: u32 = 8;
 
 /// `CLOCKBOARD_SIZE` of the header.
-pub const SIZE: usize = 9_416;
+pub const SIZE: usize = 9424;
 
 #[derive(Clone, Copy)]
 #[repr(C)]

@@ -47,13 +47,17 @@ left_pulses from to r = if is_unheard r then pulses_from RTC_HZ from (to - from)
 abbrev pub AreHeard : ℕ → ℕ → RtcParts → PulseCounts → Type 0
 AreHeard from to r = ArePulsesWith (heard_pulses from to r) from to
 
--- nothing comes in a stretch with these pulses: OUT of counter 0 doesn't rise, an MC146818 that is
--- heard has no event, no timer that is enabled matches, and no catch-up point finds a line that waits
-pub record IsQuiet (from to : ℕ) (p : PulseCounts) (d : DeviceParts) : Type 0 where
-  pub pit : rises_in (counter_of d.pit 0) p.pit ≡ 0
+-- nothing but rises of OUT 0 comes in a stretch with these pulses: an MC146818 that is heard has no
+-- event, no timer that is enabled matches, and no catch-up point finds a line that waits
+pub record IsQuietBesidePit (from to : ℕ) (p : PulseCounts) (d : DeviceParts) : Type 0 where
   pub clock : (is_unheard d.rtc ≡ true)
       ⊎ ((ticks_in (divider_of d.rtc) p.rtc ≡ 0) × (updates_in (divider_of d.rtc) p.rtc ≡ 0))
   pub timers : (k : ℕ) → k < d.hpet.timers → is_enabled (timer_at k d.hpet) ≡ true
       → matches_of k d.hpet p.hpet ≡ 0
   pub lines : (to < (from / d.slew_ns + 1) * d.slew_ns)
       ⊎ ((k : ℕ) → k < 10 → is_waiting (line_at k d) ≡ false)
+
+-- .. and OUT 0 doesn't rise
+pub record IsQuiet (from to : ℕ) (p : PulseCounts) (d : DeviceParts) : Type 0 where
+  pub pit : rises_in (counter_of d.pit 0) p.pit ≡ 0
+  pub beside : IsQuietBesidePit from to p d

@@ -10,6 +10,7 @@ use Rattle.std.specs.Prelude.{
   ◌≤◌,
   ◌^◌,
   Bool,
+  true,
   if◌then◌else◌,
   Option,
   Some,
@@ -17,11 +18,14 @@ use Rattle.std.specs.Prelude.{
   IfSome,
   List,
   [],
+  ◌∷◌,
   length,
   slice_index_or,
 }
 use Rattle.clk_units.specs.Pulses.{pulses_from}
 use Rattle.rtc_registers.specs.Pulses.{rtc_pulsed_times}
+use Rattle.irq_edges.specs.declared.edges.Edge.{Edge}
+use Rattle.irq_edges.specs.Lines.{line_numbers, level_of}
 use Rattle.hpet_comparator.specs.declared.stretch.Matches.{Matches}
 use Rattle.hpet_registers.specs.declared.hpet.TheConstants.{HPET_HZ}
 use Rattle.hpet_registers.specs.declared.parts.HpetParts.{HpetParts}
@@ -33,6 +37,7 @@ use Rattle.board_devices.specs.declared.stretch.Span.{Span}
 use Rattle.board_devices.specs.Lines.{levels}
 use Rattle.board_devices.specs.Places.{line_at, no_line}
 use Rattle.board_devices.specs.Run.{run}
+use Rattle.board_devices.specs.Rises.{one_if, lifts}
 use Rattle.board_devices.specs.private.Stretch.{end_of, up_of, timer_ticks, told_levels}
 
 -- the devices after n more pulses of the MC146818's crystal
@@ -48,6 +53,21 @@ pub record HasAdvanced (from to : ℕ) (before after : DeviceParts) (moved : Boo
       ≡ told_levels (from + j) (levels before) (if moved then Some times else None)
   pub due : (k : ℕ) → k < 10
       → (line_at k after).counts.due ≤ (line_at k before).counts.due + (to - from)
+
+-- the edge of line 0 that goes up at a time, where there is one
+abbrev pub rise_edges : Option ℕ → List Edge
+rise_edges None = []
+rise_edges (Some t) = record { at = t; line = 0; up = true } ∷ []
+
+-- the devices after a run to `to` whose one edge, if it has any, is a rise of line 0
+pub record HasTicked (from to : ℕ) (before after : DeviceParts) (rise : Option ℕ) : Type 0 where
+  pub state : after ≡ (run from (to - from) before).state
+  pub edges : (run from (to - from) before).edges ≡ rise_edges rise
+  pub due : (k : ℕ) → k < 10
+      → (line_at k after).counts.due ≤ (line_at k before).counts.due + (to - from)
+  pub lifts : (n : ℕ) → lifts n (run from (to - from) before).edges
+      + one_if (level_of line_numbers (levels before) n)
+      ≡ one_if (level_of line_numbers (levels after) n)
 
 -- the line at place k after a stretch, and from when on it is up; the others are as they were
 pub record HasRunLine (k : ℕ) (span : Span) (ticks : Ticks) (before after : List TickParts)

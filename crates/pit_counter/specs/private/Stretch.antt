@@ -17,8 +17,8 @@ use Rattle.std.specs.Prelude.{
   None,
   if◌then◌else◌,
 }
-use Rattle.pit_counter.specs.Mode.{mode_of, is_rate, is_periodic}
-use Rattle.pit_counter.specs.Count.{modulus, loaded_count, is_odd_square}
+use Rattle.pit_counter.specs.Mode.{mode_of, is_rate, is_square, is_periodic}
+use Rattle.pit_counter.specs.Count.{modulus, meant_count, loaded_count, is_odd_square}
 use Rattle.pit_counter.specs.declared.table.Effect.{Effect}
 use Rattle.pit_counter.specs.declared.table.Effect.TheVariants.{
   Load,
@@ -89,6 +89,22 @@ is_reloaded c =
 -- mode 2 counts with GATE high, on to the load after a count of 1
 unfoldable pub is_dividing : CounterParts → Bool
 is_dividing c = is_rate (mode_of c.bits) && c.gate && c.live && not c.trig && not (c.ce == 1)
+
+-- the same so many pulses before its next load, the last of them with OUT low
+abbrev pub with_left : ℕ → CounterParts → CounterParts
+with_left left c = record c { ce = left % modulus c.bits; out = not (left == 1) }
+
+-- mode 3 counts with GATE high
+unfoldable pub is_halving : CounterParts → Bool
+is_halving c = is_square (mode_of c.bits) && c.gate && c.live && not c.trig
+
+-- how many pulses are left then of the present half
+unfoldable pub half_left : CounterParts → ℕ
+half_left c = if c.out && c.odd then c.ce / 2 + 1 else height c / 2
+
+-- and how many to the next rise: OUT rises with the load that ends the low half
+unfoldable pub to_rise : CounterParts → ℕ
+to_rise c = half_left c + (if c.out then meant_count c.bits c.cr / 2 else 0)
 
 -- the first of both, where the second begins after the first m
 abbrev pub joined_first : Option ℕ → ℕ → Option ℕ → Option ℕ

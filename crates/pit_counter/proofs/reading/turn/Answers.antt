@@ -1,22 +1,21 @@
-use Rattle.std.proofs.Common.{ap, sym, not, ◌&&◌, Bool}
-use Rattle.pit_counter.specs.Mode.{takes_two}
-use Rattle.pit_counter.proofs.Later.{one_byte-next, after_read-present}
+use Rattle.std.proofs.Common.{ap, not, ◌&&◌, sym, Bool}
+use Rattle.pit_counter.proofs.Later.{one_byte-next, takes_one, takes_both, after_read-present}
 use Rattle.pit_counter.proofs.reading.turn.Goals as goal
 
-pub returns-in-LowByte-clause-state : goal.returns-in-LowByte-clause-state
-returns-in-LowByte-clause-state c =
+pub returns-then-rw-eq1-clause-state : goal.returns-then-rw-eq1-clause-state
+returns-then-rw-eq1-clause-state c =
     let p = c.args.p.now in
     after_read-present p p.high_next c.requires.valid c.requires.no_status c.requires.no_count
-    (one_byte-next p c.requires.valid (sym (ap takes_two c.in-LowByte.ensures)))
+    (one_byte-next p c.requires.valid (takes_one p.bits 1 c.if-rw-eq1.true))
 
-pub returns-in-HighByte-clause-state : goal.returns-in-HighByte-clause-state
-returns-in-HighByte-clause-state c =
+pub returns-then-rw-eq2-clause-state : goal.returns-then-rw-eq2-clause-state
+returns-then-rw-eq2-clause-state c =
     let p = c.args.p.now in
     after_read-present p p.high_next c.requires.valid c.requires.no_status c.requires.no_count
-    (one_byte-next p c.requires.valid (sym (ap takes_two c.in-HighByte.ensures)))
+    (one_byte-next p c.requires.valid (takes_one p.bits 2 c.if-rw-eq2.true))
 
-pub returns-in-LowThenHigh-clause-state : goal.returns-in-LowThenHigh-clause-state
-returns-in-LowThenHigh-clause-state c =
+pub returns-clause-state : goal.returns-clause-state
+returns-clause-state c =
     let p = c.args.p.now in
     after_read-present p (not p.high_next) c.requires.valid c.requires.no_status c.requires.no_count
-    (ap (λ (b : Bool). b && not p.high_next) (ap takes_two c.in-LowThenHigh.ensures))
+    (ap (λ (b : Bool). b && not p.high_next) (sym (takes_both p.bits c.if-rw-eq1.false c.if-rw-eq2.false)))

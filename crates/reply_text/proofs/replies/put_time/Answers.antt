@@ -7,10 +7,11 @@ use Rattle.reply_text.proofs.replies.put_time.Goals as goal
 pub write_text-requires-clause-room : goal.write_text-requires-clause-room
 write_text-requires-clause-room c =
     let short = length-decimal-le 20 c.args.at (omega arith) (omega arith) (omega arith) in
-    omega (arith, short, c.write_digits-start.ensures.start)
+    omega (arith, short, c.write_number-start.ensures.start)
 
-pub write_digits-start-requires : goal.write_digits-start-requires
-write_digits-start-requires c = (omega (arith, length-decimal-le 20 c.args.at (omega arith) (omega arith) (omega arith)), omega (arith, c.told-text))
+pub write_number-start-requires-clause-room : goal.write_number-start-requires-clause-room
+write_number-start-requires-clause-room c =
+    omega (arith, length-decimal-le 20 c.args.at (omega arith) (omega arith) (omega arith))
 
 pub returns-clause-written : goal.returns-clause-written
 returns-clause-written c =
@@ -18,6 +19,6 @@ returns-clause-written c =
     let digits : List ℕ = decimal c.args.at in
     let rest : List ℕ = drop 25 c.args.text.now in
     up_to c.write_text.new.buf (word ++ digits) rest c.write_text.result 25
-    (c.write_text.ensures.written ∙ ap (λ (t : List ℕ). word ++ t) c.write_digits-start.ensures.written
+    (c.write_text.ensures.written ∙ ap (λ (t : List ℕ). word ++ t) c.write_number-start.ensures.written
     ∙ sym (append_assoc word digits rest))
-    (omega (arith, length-append word digits, c.write_text.ensures.start, c.write_digits-start.ensures.start))
+    (omega (arith, length-append word digits, c.write_text.ensures.start, c.write_number-start.ensures.start))

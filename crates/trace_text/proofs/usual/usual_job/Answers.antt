@@ -25,24 +25,24 @@ returns-in-1885697139-clause-job c =
     let begins = sliced 4 (codes "step") left (omega arith) (step_front left (λ j. (c.type_inv.left j).fits) c.if-left-lt4.false word) in
     by_step c.args.body.now left (after 4 left) c.usual_step.result begins c.usual_step.ensures.job
 
-pub returns-in-543908705-clause-job : goal.returns-in-543908705-clause-job
-returns-in-543908705-clause-job c =
+pub returns-else-left-ne5-2-clause-job : goal.returns-else-left-ne5-2-clause-job
+returns-else-left-ne5-2-clause-job c =
     let left : List ℕ = c.args.left.now in
     let word = sym c.first_four-front.ensures ∙ c.in-543908705.is in
     let begins = sliced 4 (codes "ack ") left (omega arith) (ack_front left (λ j. (c.type_inv.left j).fits) c.if-left-lt4.false word) in
     by_row (line_row c.args.body.now Ack) c.args.body.now (codes "ack ") left (after 4 left) c.new-in-543908705.result c.usual_ack.result
     (ack_first c.args.body.now) begins c.new-in-543908705.ensures c.usual_ack.ensures.job
 
-pub returns-in-544503151-clause-job : goal.returns-in-544503151-clause-job
-returns-in-544503151-clause-job c =
+pub returns-else-left-ne9-clause-job : goal.returns-else-left-ne9-clause-job
+returns-else-left-ne9-clause-job c =
     let left : List ℕ = c.args.left.now in
     let word = sym c.first_four-front.ensures ∙ c.in-544503151.is in
     let begins = sliced 4 (codes "out ") left (omega arith) (out_front left (λ j. (c.type_inv.left j).fits) c.if-left-lt4.false word) in
     by_row (out_row c.args.body.now) c.args.body.now (codes "out ") left (after 4 left) c.new-in-544503151.result c.usual_out.result
     (out_first c.args.body.now) begins c.new-in-544503151.ensures c.usual_out.ensures.job
 
-pub returns-in_ok-page-in-1668246627-clause-job : goal.returns-in_ok-page-in-1668246627-clause-job
-returns-in_ok-page-in-1668246627-clause-job c =
+pub returns-else-page-gt2-clause-job : goal.returns-else-page-gt2-clause-job
+returns-else-page-gt2-clause-job c =
     let left : List ℕ = c.args.left.now in
     let page : List ℕ = c.in_ok-page-in-1668246627.page.now in
     let word = sym c.first_four-front.ensures ∙ c.in-1668246627.is in

@@ -49,9 +49,9 @@ use Rattle.board_devices.proofs.Advance.{Brought, Known, ran-state, ran-levels, 
 use Rattle.board_devices.proofs.Timers.{ends-timers, times-are}
 use Rattle.hpet_registers.proofs.After.{has_ticks-hpet_pulsed_times}
 use Rattle.board_devices.proofs.Idle.{end-early, end-unseen}
-use Rattle.board_devices.proofs.Still.{Quiet, levels-still, flag-again}
+use Rattle.board_devices.proofs.Still.{QuietFrom, levels-still, flag-again}
 use Rattle.board_devices.proofs.devices.Devices.advance_by.Goals as goal
-use Rattle.board_devices.proofs.devices.Devices.advance_by.Goals.{After-clock_pulses-events}
+use Rattle.board_devices.proofs.devices.Devices.advance_by.Goals.{After-pulses-events}
 
 -- there is room for the ticks
 pub run_pit-pit_up-requires-clause-room : goal.run_pit-pit_up-requires-clause-room
@@ -66,7 +66,7 @@ run_clock-rtc_up-requires-clause-room c =
     rw (← c.self.view_is) at (c.requires.stretch.room 1 (omega arith)) in
     let same : (get_or c.run_pit-pit_up.new.lines 1 no_line).counts.due ≡ (line_at 1 (parts_of c.self.inside)).counts.due =
     ap (λ (l : TickParts). l.counts.due) (c.run_pit-pit_up.ensures.others 1 (λ e. absurd (omega (arith, e)))) in
-    omega (arith, room, same, c.clock_pulses-events.ensures.few_ticks, c.requires.pulses.few_rtc)
+    omega (arith, room, same, c.pulses-events.ensures.few_ticks, c.requires.pulses.few_rtc)
 
 pub run_timers-requires : goal.run_timers-requires
 run_timers-requires c = record {
@@ -84,37 +84,37 @@ run_timers-requires c = record {
 }
 
 -- what is known where the devices have had their pulses
-sound : (c : After-clock_pulses-events) → Sound (parts_of c.self.inside)
+sound : (c : After-pulses-events) → Sound (parts_of c.self.inside)
 sound c = record {
   rtc = rw c.parts-clock.ensures.value at c.parts-clock.ensures.valid;
   joined = c.self.invariant;
 }
 
-valid : (c : After-clock_pulses-events) → IsHpet c.self.inside.hpet
+valid : (c : After-pulses-events) → IsHpet c.self.inside.hpet
 valid c = subst IsHpet c.parts-status.ensures.parts c.parts-status.ensures.valid
 
 -- the clock has all its pulses where somebody hears it
-heard : (c : After-clock_pulses-events) → is_unheard c.self.inside.rtc ≡ false
+heard : (c : After-pulses-events) → is_unheard c.self.inside.rtc ≡ false
     → c.args.pulses.rtc ≡ pulses_from RTC_HZ c.args.from (c.args.to - c.args.from)
 heard c e = c.requires.pulses.rtc ∙ ap (λ (d : DeviceParts). heard_pulses c.args.from c.args.to d.rtc) (sym c.self.view_is)
     ∙ heard-all c.args.from c.args.to c.self.inside.rtc e
 
-heard_counts : (c : After-clock_pulses-events) → counts_rtc (parts_of c.self.inside) ≡ true → is_unheard c.self.inside.rtc ≡ false
+heard_counts : (c : After-pulses-events) → counts_rtc (parts_of c.self.inside) ≡ true → is_unheard c.self.inside.rtc ≡ false
 heard_counts c on = heard-pie c.self.inside.rtc (first (pie_of c.self.inside.rtc) (not (is_legacy c.self.inside.hpet)) on)
   where
     first : (a b : Bool) → (a && b) ≡ true → a ≡ true
     first true b h = refl
     first false b h = absurd (true≢false (sym h))
 
-brought : (c : After-clock_pulses-events)
-    → Brought (parts_of c.self.inside) c.args.from (c.args.to - c.args.from) c.pulses-rises.result c.clock_pulses-events.result c.pulse_hpet-reach.new.matches
+brought : (c : After-pulses-events)
+    → Brought (parts_of c.self.inside) c.args.from (c.args.to - c.args.from) c.pulses-rises.result c.pulses-events.result c.pulse_hpet-reach.new.matches
 brought c = record {
   pit_count = rw c.requires.pulses.pit at c.pulses-rises.ensures.count;
   pit_first = rw c.requires.pulses.pit at c.pulses-rises.ensures.first;
-  rtc_count = λ on. rw (heard c (heard_counts c on)) at c.clock_pulses-events.ensures.ticks;
-  rtc_first = λ on. rw (heard c (heard_counts c on)) at c.clock_pulses-events.ensures.first_tick;
-  update_first = λ on. rw (heard c (heard-uie c.self.inside.rtc on)) at c.clock_pulses-events.ensures.first_update;
-  alarm_first = λ on. rw (heard c (heard-aie c.self.inside.rtc on)) at c.clock_pulses-events.ensures.first_alarm;
+  rtc_count = λ on. rw (heard c (heard_counts c on)) at c.pulses-events.ensures.ticks;
+  rtc_first = λ on. rw (heard c (heard_counts c on)) at c.pulses-events.ensures.first_tick;
+  update_first = λ on. rw (heard c (heard-uie c.self.inside.rtc on)) at c.pulses-events.ensures.first_update;
+  alarm_first = λ on. rw (heard c (heard-aie c.self.inside.rtc on)) at c.pulses-events.ensures.first_alarm;
   timer_count = rw c.requires.pulses.hpet at c.pulse_hpet-reach.ensures.count;
   timer_first = rw c.requires.pulses.hpet at c.pulse_hpet-reach.ensures.first;
 }
@@ -124,32 +124,32 @@ inside : (count : ℕ → ℕ) (n most : ℕ) (first : Option ℕ) → n ≤ mos
 inside count n most None few h = tt
 inside count n most (Some j) few h = omega (arith, few, h.1)
 
-few_heard : (c : After-clock_pulses-events) → c.args.pulses.rtc ≤ pulses_from RTC_HZ c.args.from (c.args.to - c.args.from)
+few_heard : (c : After-pulses-events) → c.args.pulses.rtc ≤ pulses_from RTC_HZ c.args.from (c.args.to - c.args.from)
 few_heard c = omega (arith, c.requires.pulses.rtc, heard-few c.args.from c.args.to c.args.self.now.rtc)
 
 pub irq_up-irq-requires-clause-alarm : goal.irq_up-irq-requires-clause-alarm
-irq_up-irq-requires-clause-alarm c = inside (alarms_in c.self.inside.rtc) c.args.pulses.rtc _ c.clock_pulses-events.result.first_alarm
-    (few_heard (goal.at.irq_up-irq-requires-clause-alarm c).After-clock_pulses-events) c.clock_pulses-events.ensures.first_alarm
+irq_up-irq-requires-clause-alarm c = inside (alarms_in c.self.inside.rtc) c.args.pulses.rtc _ c.pulses-events.result.first_alarm
+    (few_heard (goal.at.irq_up-irq-requires-clause-alarm c).After-pulses-events) c.pulses-events.ensures.first_alarm
 
 pub irq_up-irq-requires-clause-update : goal.irq_up-irq-requires-clause-update
-irq_up-irq-requires-clause-update c = inside (updates_in (divider_of c.self.inside.rtc)) c.args.pulses.rtc _ c.clock_pulses-events.result.cycle.first_update
-    (few_heard (goal.at.irq_up-irq-requires-clause-update c).After-clock_pulses-events) c.clock_pulses-events.ensures.first_update
+irq_up-irq-requires-clause-update c = inside (updates_in (divider_of c.self.inside.rtc)) c.args.pulses.rtc _ c.pulses-events.result.cycle.first_update
+    (few_heard (goal.at.irq_up-irq-requires-clause-update c).After-pulses-events) c.pulses-events.ensures.first_update
 
 -- the ticks of the 8254 and of the MC146818
-abbrev pit_of : (c : After-clock_pulses-events) → Ticks
+abbrev pit_of : (c : After-pulses-events) → Ticks
 pit_of c = counted true (not c.legacy-legacy.result) c.pulses-rises.result.count (first_at PIT_HZ c.args.from c.pulses-rises.result.first)
 
-abbrev rtc_of : (c : After-clock_pulses-events) → Ticks
-rtc_of c = counted (counts_rtc (parts_of c.self.inside)) (counts_rtc (parts_of c.self.inside)) c.clock_pulses-events.result.cycle.ticks
-    (first_at RTC_HZ c.args.from c.clock_pulses-events.result.cycle.first_tick)
+abbrev rtc_of : (c : After-pulses-events) → Ticks
+rtc_of c = counted (counts_rtc (parts_of c.self.inside)) (counts_rtc (parts_of c.self.inside)) c.pulses-events.result.cycle.ticks
+    (first_at RTC_HZ c.args.from c.pulses-events.result.cycle.first_tick)
 
 -- the first catch-up point
-ahead : (c : After-clock_pulses-events) → ℕ
+ahead : (c : After-pulses-events) → ℕ
 ahead c = (c.args.from / c.self.inside.slew_ns + 1) * c.self.inside.slew_ns - c.args.from
 
-known : (c : After-clock_pulses-events)
+known : (c : After-pulses-events)
     → Known (parts_of c.self.inside) c.args.from (c.args.to - c.args.from) (ahead c)
-    c.pulses-rises.result c.clock_pulses-events.result c.pulse_hpet-reach.new.matches (pit_of c) (rtc_of c)
+    c.pulses-rises.result c.pulses-events.result c.pulse_hpet-reach.new.matches (pit_of c) (rtc_of c)
 unfolding ahead
 known c = record {
   sound = sound c;
@@ -159,35 +159,35 @@ known c = record {
   rtc_is = refl;
 }
 
-point_is : (c : After-clock_pulses-events) → c.next_point-point.result ≡ c.args.from + ahead c
+point_is : (c : After-pulses-events) → c.next_point-point.result ≡ c.args.from + ahead c
 unfolding ahead
 point_is c = omega (arith, (known c).point.later, c.next_point-point.ensures)
 
-end_is : (c : After-clock_pulses-events) → c.args.to ≡ c.args.from + (c.args.to - c.args.from)
+end_is : (c : After-pulses-events) → c.args.to ≡ c.args.from + (c.args.to - c.args.from)
 end_is c = omega (arith, c.requires.stretch.order)
 
-hpet_is : (c : After-clock_pulses-events)
+hpet_is : (c : After-pulses-events)
     → c.pulse_hpet-reach.new.hpet ≡ hpet_pulsed_times (pulses_from HPET_HZ c.args.from (c.args.to - c.args.from)) c.self.inside.hpet
 hpet_is c = rw c.requires.pulses.hpet at c.pulse_hpet-reach.ensures.state
 
 -- the clock has the pulses that are heard
-taken : (c : After-clock_pulses-events) → c.clock_pulses-events.new.rtc
+taken : (c : After-pulses-events) → c.pulses-events.new.self
     ≡ rtc_pulsed_times (heard_pulses c.args.from c.args.to c.self.inside.rtc) c.self.inside.rtc
-taken c = c.clock_pulses-events.ensures.state
+taken c = c.pulses-events.ensures.state
     ∙ ap (λ (n : ℕ). rtc_pulsed_times n c.self.inside.rtc)
     (c.requires.pulses.rtc ∙ ap (λ (d : DeviceParts). heard_pulses c.args.from c.args.to d.rtc) (sym c.self.view_is))
 
-abbrev heard_rtc : (c : After-clock_pulses-events) → RtcParts
+abbrev heard_rtc : (c : After-pulses-events) → RtcParts
 heard_rtc c = rtc_pulsed_times (heard_pulses c.args.from c.args.to c.self.inside.rtc) c.self.inside.rtc
 
-valid_rtc : (c : After-clock_pulses-events) → IsRtc (heard_rtc c)
+valid_rtc : (c : After-pulses-events) → IsRtc (heard_rtc c)
 valid_rtc c = IsRtc-rtc_pulsed_times (heard_pulses c.args.from c.args.to c.self.inside.rtc) c.self.inside.rtc (sound c).rtc
 
-b_heard : (c : After-clock_pulses-events) → register_b (heard_rtc c) ≡ register_b c.self.inside.rtc
+b_heard : (c : After-pulses-events) → register_b (heard_rtc c) ≡ register_b c.self.inside.rtc
 b_heard c = register_b-rtc_pulsed_times (heard_pulses c.args.from c.args.to c.self.inside.rtc) c.self.inside.rtc (sound c).rtc
 
 -- what is left to it changes nothing that joins the devices
-unpassed : (c : After-clock_pulses-events) (d : DeviceParts) → d.hpet ≡ c.pulse_hpet-reach.new.hpet
+unpassed : (c : After-pulses-events) (d : DeviceParts) → d.hpet ≡ c.pulse_hpet-reach.new.hpet
     → register_b d.rtc ≡ register_b c.self.inside.rtc → IsRtc d.rtc
     → IsDevices (passed (left_pulses c.args.from c.args.to c.self.inside.rtc) d) → IsDevices d
 unpassed c d hpet b valid joined = by_test (is_unheard c.self.inside.rtc) refl
@@ -201,8 +201,8 @@ unpassed c d hpet b valid joined = by_test (is_unheard c.self.inside.rtc) refl
         (ap (λ (p : Bool). p && not (is_legacy d.hpet)) (ap (bit 6) (register_b-rtc_pulsed_times n d.rtc valid) ∙ off))
 
 -- where the lines were taken over the stretch
-abbrev pulsed : (c : goal.After-run_timers) → After-clock_pulses-events
-pulsed c = (goal.at.returns-clause-ran c).After-clock_pulses-events
+abbrev pulsed : (c : goal.After-run_timers) → After-pulses-events
+pulsed c = (goal.at.returns-clause-ran c).After-pulses-events
 
 counts_is : (c : goal.After-run_timers) → c.counts_rtc-counts.result ≡ counts_rtc (parts_of c.self.inside)
 counts_is c = rw (c.counts_rtc-counts.ensures, c.legacy-legacy.ensures, c.shown_of-shown.ensures.pie) refl
@@ -220,8 +220,8 @@ first_line : (c : goal.After-run_timers) → get_or c.run_clock-rtc_up.new.lines
     ≡ end_of c.next_point-point.result c.args.to (rtc_of (pulsed c)) (line_at 1 (parts_of c.self.inside))
 first_line c =
     c.run_clock-rtc_up.ensures.here
-    ∙ ap (λ (b : Bool). end_of c.next_point-point.result c.args.to (counted b b c.clock_pulses-events.result.cycle.ticks
-    (first_at RTC_HZ c.args.from c.clock_pulses-events.result.cycle.first_tick)) (get_or c.run_pit-pit_up.new.lines 1 no_line)) (counts_is c)
+    ∙ ap (λ (b : Bool). end_of c.next_point-point.result c.args.to (counted b b c.pulses-events.result.cycle.ticks
+    (first_at RTC_HZ c.args.from c.pulses-events.result.cycle.first_tick)) (get_or c.run_pit-pit_up.new.lines 1 no_line)) (counts_is c)
     ∙ ap (end_of c.next_point-point.result c.args.to (rtc_of (pulsed c))) (c.run_pit-pit_up.ensures.others 1 (λ e. absurd (omega (arith, e))))
 
 ends : (c : goal.After-run_timers) → (k : ℕ) → k < 10 → get_or c.run_timers.new.lines k no_line
@@ -256,7 +256,7 @@ rtc_is c =
     ∙ ap (λ (b : Bool). b && c.is_up.result) (counts_is c)
     ∙ ap (λ (b : Bool). counts_rtc (parts_of c.self.inside) && b) (c.is_up.ensures ∙ ap (λ (l : TickParts). l.up) one) in
     ap (rtc_pulsed_times (left_pulses c.args.from c.args.to c.self.inside.rtc))
-    (c.set_flag.ensures ∙ ap (λ (b : Bool). flagged_where b c.clock_pulses-events.new.rtc) flag
+    (c.set_flag.ensures ∙ ap (λ (b : Bool). flagged_where b c.pulses-events.new.self) flag
     ∙ ap (flagged_where (counts_rtc (parts_of c.self.inside) && (get_or c.run_timers.new.lines 1 no_line).up)) (taken (pulsed c)))
     ∙ passed-flagged c.args.from c.args.to (counts_rtc (parts_of c.self.inside) && (get_or c.run_timers.new.lines 1 no_line).up) c.self.inside.rtc
     (λ e. ap (λ (b : Bool). b && (get_or c.run_timers.new.lines 1 no_line).up) (unheard-counts (parts_of c.self.inside) e))
@@ -299,8 +299,8 @@ irq_up : (c : goal.After-run_timers) → c.irq_up-irq.result ≡ irq_at (known (
 irq_up c =
     let line : c.run_clock-rtc_up.result ≡ up_at (known (pulsed c)) 1 =
     c.run_clock-rtc_up.ensures.up
-    ∙ ap (λ (b : Bool). up_of c.args.from c.next_point-point.result c.args.to (counted b b c.clock_pulses-events.result.cycle.ticks
-    (first_at RTC_HZ c.args.from c.clock_pulses-events.result.cycle.first_tick)) (get_or c.run_pit-pit_up.new.lines 1 no_line)) (counts_is c)
+    ∙ ap (λ (b : Bool). up_of c.args.from c.next_point-point.result c.args.to (counted b b c.pulses-events.result.cycle.ticks
+    (first_at RTC_HZ c.args.from c.pulses-events.result.cycle.first_tick)) (get_or c.run_pit-pit_up.new.lines 1 no_line)) (counts_is c)
     ∙ ap (up_of c.args.from c.next_point-point.result c.args.to (rtc_of (pulsed c))) (c.run_pit-pit_up.ensures.others 1 (λ e. absurd (omega (arith, e))))
     ∙ up-is (known (pulsed c)) c.next_point-point.result c.args.to 1 (point_is (pulsed c)) (end_is (pulsed c)) in
     c.irq_up-irq.ensures
@@ -335,7 +335,7 @@ times c =
     (ap (λ (g : HpetParts). g.status) c.parts-status.ensures.parts) (behind c) (pit_up c) (irq_up c) c.legacy-legacy.ensures
 
 -- what a run leaves, by what the devices were
-abbrev leaves : (c : After-clock_pulses-events) → DeviceParts → DeviceParts → Type 0
+abbrev leaves : (c : After-pulses-events) → DeviceParts → DeviceParts → Type 0
 leaves c after d = passed (left_pulses c.args.from c.args.to d.rtc) after ≡ (run c.args.from (c.args.to - c.args.from) d).state
 
 pub returns-clause-ran : goal.returns-clause-ran
@@ -348,8 +348,8 @@ returns-clause-ran c = record {
 }
 
 -- where their ticks alone were counted
-abbrev still_pulsed : (c : goal.After-take_matches) → After-clock_pulses-events
-still_pulsed c = (goal.at.returns-then-finds_up-clause-ran c).After-clock_pulses-events
+abbrev still_pulsed : (c : goal.After-take_matches) → After-pulses-events
+still_pulsed c = (goal.at.returns-then-finds_up-clause-ran c).After-pulses-events
 
 -- where no line moved: there is room for the ticks
 pub count_ticks-requires-clause-room : goal.count_ticks-requires-clause-room
@@ -378,10 +378,10 @@ take_matches-requires-clause-inside c =
     omega (arith, same, c.pulse_hpet-reach.ensures.inside)
 
 -- nothing came of the MC146818
-still_ticks : (c : goal.After-take_matches) → c.clock_pulses-events.result.cycle.ticks ≡ 0
+still_ticks : (c : goal.After-take_matches) → c.pulses-events.result.cycle.ticks ≡ 0
 still_ticks c = c.if-brought_nothing.ensures.ticks refl
 
-still_updates : (c : goal.After-take_matches) → c.clock_pulses-events.result.cycle.updates ≡ 0
+still_updates : (c : goal.After-take_matches) → c.pulses-events.result.cycle.updates ≡ 0
 still_updates c = c.if-brought_nothing.ensures.updates refl
 
 -- the lines at the end: each has its ticks
@@ -401,8 +401,8 @@ still_ends c zero less =
     (first_at PIT_HZ c.args.from c.pulses-rises.result.first) (line_at 0 (parts_of c.self.inside)) (early c))
 still_ends c (suc zero) less =
     clock_line c
-    ∙ sym (end-unseen c.next_point-point.result c.args.to c.clock_pulses-events.result.cycle.ticks (counts_rtc (parts_of c.self.inside))
-    (first_at RTC_HZ c.args.from c.clock_pulses-events.result.cycle.first_tick) (line_at 1 (parts_of c.self.inside)) (early c)
+    ∙ sym (end-unseen c.next_point-point.result c.args.to c.pulses-events.result.cycle.ticks (counts_rtc (parts_of c.self.inside))
+    (first_at RTC_HZ c.args.from c.pulses-events.result.cycle.first_tick) (line_at 1 (parts_of c.self.inside)) (early c)
     (still_ticks c))
 still_ends c (suc (suc k)) less = ends-timers (known (still_pulsed c)) c.next_point-point.result c.args.to c.self.inside.ticks c.take_matches.new.lines
     (λ j small. ap (λ (i : ℕ). get_or c.self.inside.ticks i no_line) (omega arith))
@@ -418,7 +418,7 @@ still_ends c (suc (suc k)) less = ends-timers (known (still_pulsed c)) c.next_po
 
 -- PF follows its line, which is as it was
 still_rtc_is : (c : goal.After-take_matches)
-    → rtc_pulsed_times (left_pulses c.args.from c.args.to c.self.inside.rtc) c.clock_pulses-events.new.rtc
+    → rtc_pulsed_times (left_pulses c.args.from c.args.to c.self.inside.rtc) c.pulses-events.new.self
     ≡ flagged_where (counts_rtc (parts_of c.self.inside) && (get_or c.take_matches.new.lines 1 no_line).up)
     (rtc_pulsed_times (pulses_from RTC_HZ c.args.from (c.args.to - c.args.from)) c.self.inside.rtc)
 unfolding flagged_where
@@ -435,19 +435,19 @@ still_rtc_is c =
 still_state : (c : goal.After-take_matches)
     → parts_of (record {
       pit = c.pulses-rises.new.self;
-      rtc = rtc_pulsed_times (left_pulses c.args.from c.args.to c.self.inside.rtc) c.clock_pulses-events.new.rtc;
+      rtc = rtc_pulsed_times (left_pulses c.args.from c.args.to c.self.inside.rtc) c.pulses-events.new.self;
       hpet = c.pulse_hpet-reach.new.hpet;
       ticks = c.take_matches.new.lines;
       slew_ns = c.self.inside.slew_ns;
     }) ≡ (run c.args.from (c.args.to - c.args.from) (parts_of c.self.inside)).state
 still_state c = ran-state (known (still_pulsed c)) c.next_point-point.result c.args.to c.take_matches.new.lines c.pulses-rises.new.self
-    (rtc_pulsed_times (left_pulses c.args.from c.args.to c.self.inside.rtc) c.clock_pulses-events.new.rtc) c.pulse_hpet-reach.new.hpet (point_is (still_pulsed c)) (end_is (still_pulsed c)) c.take_matches.ensures.places (still_ends c)
+    (rtc_pulsed_times (left_pulses c.args.from c.args.to c.self.inside.rtc) c.pulses-events.new.self) c.pulse_hpet-reach.new.hpet (point_is (still_pulsed c)) (end_is (still_pulsed c)) c.take_matches.ensures.places (still_ends c)
     (rw c.requires.pulses.pit at c.pulses-rises.ensures.state) (still_rtc_is c) (hpet_is (still_pulsed c))
 
 still_joined : (c : goal.After-take_matches)
     → IsDevices (parts_of (record {
       pit = c.pulses-rises.new.self;
-      rtc = rtc_pulsed_times (left_pulses c.args.from c.args.to c.self.inside.rtc) c.clock_pulses-events.new.rtc;
+      rtc = rtc_pulsed_times (left_pulses c.args.from c.args.to c.self.inside.rtc) c.pulses-events.new.self;
       hpet = c.pulse_hpet-reach.new.hpet;
       ticks = c.take_matches.new.lines;
       slew_ns = c.self.inside.slew_ns;
@@ -512,14 +512,15 @@ level c k is_on enabled = elim (cases_lt 0 (timer_matches c.pulse_hpet-reach.new
 ]
 
 -- no level changes
-quiet : (c : goal.After-take_matches) → Quiet (parts_of c.self.inside) c.args.from (c.args.to - c.args.from) (ahead (still_pulsed c))
+quiet : (c : goal.After-take_matches) → QuietFrom 0 (parts_of c.self.inside) c.args.from (c.args.to - c.args.from) (ahead (still_pulsed c))
 unfolding ahead
 quiet c = record {
+  few = omega arith;
   sound = sound (still_pulsed c);
   point = (known (still_pulsed c)).point;
-  early = λ k less. inl (omega (arith, early c, c.next_point-point.ensures, c.requires.stretch.order));
+  early = inl (omega (arith, early c, c.next_point-point.ensures, c.requires.stretch.order));
   clock = by_test (is_unheard c.self.inside.rtc) refl;
-  found = found c;
+  found = λ k _. found c k;
   level = λ k less. level c k;
 }
   where
@@ -528,22 +529,22 @@ quiet c = record {
         × (updates_in (divider_of c.self.inside.rtc) (pulses_from RTC_HZ c.args.from (c.args.to - c.args.from)) ≡ 0))
     by_test true e = inl e
     by_test false e = inr (
-      sym (rw (heard (still_pulsed c) e) at c.clock_pulses-events.ensures.ticks) ∙ still_ticks c,
-      sym (rw (heard (still_pulsed c) e) at c.clock_pulses-events.ensures.updates) ∙ still_updates c,
+      sym (rw (heard (still_pulsed c) e) at c.pulses-events.ensures.ticks) ∙ still_ticks c,
+      sym (rw (heard (still_pulsed c) e) at c.pulses-events.ensures.updates) ∙ still_updates c,
     )
 
 pub returns-then-finds_up-clause-ran : goal.returns-then-finds_up-clause-ran
 returns-then-finds_up-clause-ran c = record {
   state = subst (leaves (still_pulsed c) _) c.self.view_is (still_state c);
   levels = λ j le.
-      ap (λ (d : DeviceParts). levels (run c.args.from j d).state) (sym c.self.view_is) ∙ levels-still (quiet c) j (omega (arith, le, c.requires.stretch.order))
+      ap (λ (d : DeviceParts). levels (run c.args.from j d).state) (sym c.self.view_is) ∙ levels-still (quiet c) refl j (omega (arith, le, c.requires.stretch.order))
       ∙ ap levels c.self.view_is;
   due = λ k less. rw (← c.self.view_is)
       (due-few (known (still_pulsed c)) c.next_point-point.result c.args.to c.take_matches.new.lines (still_ends c) k less);
 }
 
 -- the conditions hold when the clock has what is left to it
-abbrev joins : (c : After-clock_pulses-events) → DeviceParts → DeviceParts → Type 0
+abbrev joins : (c : After-pulses-events) → DeviceParts → DeviceParts → Type 0
 joins c after d = IsDevices (passed (left_pulses c.args.from c.args.to d.rtc) after)
 
 pub returns-clause-joined : goal.returns-clause-joined
@@ -558,7 +559,7 @@ returns-clause-joined c = subst (joins (pulsed c) (parts_of (record {
 pub returns-then-finds_up-clause-joined : goal.returns-then-finds_up-clause-joined
 returns-then-finds_up-clause-joined c = subst (joins (still_pulsed c) (parts_of (record {
   pit = c.pulses-rises.new.self;
-  rtc = c.clock_pulses-events.new.rtc;
+  rtc = c.pulses-events.new.self;
   hpet = c.pulse_hpet-reach.new.hpet;
   ticks = c.take_matches.new.lines;
   slew_ns = c.self.inside.slew_ns;

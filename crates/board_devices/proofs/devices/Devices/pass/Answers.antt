@@ -1,11 +1,12 @@
-use Rattle.std.proofs.Common.{◌≡◌, false, sym, subst, refl}
+use Rattle.std.proofs.Common.{◌≡◌, None, [], sym, subst, refl}
 use Rattle.board_devices.specs.declared.parts.DeviceParts.{DeviceParts}
 use Rattle.board_devices.specs.Parts.{IsDevices}
 use Rattle.board_devices.specs.View.{parts_of}
 use Rattle.board_devices.specs.private.Pulses.{IsQuiet}
-use Rattle.board_devices.specs.private.Runs.{HasAdvanced}
+use Rattle.board_devices.specs.private.Runs.{HasTicked}
 use Rattle.board_devices.proofs.Product.{Sound, same_parts}
 use Rattle.board_devices.proofs.QuietRuns.{passed_by, advanced, joined}
+use Rattle.board_devices.proofs.TickRuns.{still-ticked}
 use Rattle.board_devices.proofs.devices.Devices.pass.Goals as goal
 use Rattle.board_devices.proofs.devices.Devices.pass.Goals.{After-pass-3}
 
@@ -35,14 +36,15 @@ invariant_of-self c =
     subst IsDevices (left at) (joined (sound at) c.requires.stretch.order c.requires.pulses (quiet at))
 
 pub returns : goal.returns
-returns c = λ times.
+returns c =
     let at : After-pass-3 = (goal.at.returns c).After-pass-3 in
-    subst (λ (d : DeviceParts). HasAdvanced c.args.from c.args.to d (parts_of (record {
+    subst (λ (d : DeviceParts). HasTicked c.args.from c.args.to d (parts_of (record {
       pit = c.pass.new.self;
       rtc = c.pass-2.new.self;
       hpet = c.pass-3.new.self;
       ticks = c.self.inside.ticks;
       slew_ns = c.self.inside.slew_ns;
-    })) false times) c.self.view_is
-    (subst (λ (d : DeviceParts). HasAdvanced c.args.from c.args.to (parts_of c.self.inside) d false times) (left at)
-    (advanced (sound at) c.requires.stretch.order c.requires.pulses (quiet at) times))
+    })) None) c.self.view_is
+    (subst (λ (d : DeviceParts). HasTicked c.args.from c.args.to (parts_of c.self.inside) d None) (left at)
+    (still-ticked c.args.from c.args.to (parts_of c.self.inside) _ c.requires.stretch.order
+    (advanced (sound at) c.requires.stretch.order c.requires.pulses (quiet at) [])))

@@ -7,7 +7,10 @@ use Rattle.hpet_registers.proofs.Product.{kept-hpet_pulsed_times, matches_of-see
 use Rattle.hpet_registers.proofs.hpet.Hpet.pulses.Goals as goal
 
 pub invariant_of-self : goal.invariant_of-self
-invariant_of-self c = subst IsHpet (sym c.pulse.ensures.state) (IsHpet-hpet_pulsed_times c.args.n c.self.inside.parts c.self.invariant)
+invariant_of-self c = record {
+  valid = subst IsHpet (sym c.pulse.ensures.taken.state) (IsHpet-hpet_pulsed_times c.args.n c.self.inside.parts c.self.invariant.valid);
+  planned = c.pulse.ensures.planned;
+}
 
 pub returns-clause-alone : goal.returns-clause-alone
 returns-clause-alone c = rw (← c.self.view_is) (λ k inside.
@@ -16,14 +19,14 @@ returns-clause-alone c = rw (← c.self.view_is) (λ k inside.
 
 pub returns-clause-status : goal.returns-clause-status
 returns-clause-status c = rw (← c.self.view_is) (λ k small.
-    ap (λ (h : HpetParts). bit k h.status) c.pulse.ensures.state ∙ status_bit-hpet_pulsed_times k c.args.n c.self.inside.parts small)
+    ap (λ (h : HpetParts). bit k h.status) c.pulse.ensures.taken.state ∙ status_bit-hpet_pulsed_times k c.args.n c.self.inside.parts small)
 
 pub returns-clause-config : goal.returns-clause-config
 returns-clause-config c = rw (← c.self.view_is) (λ k.
-    ap (λ (h : HpetParts). (timer_at k h).config) c.pulse.ensures.state ∙ timer_config-hpet_pulsed_times k c.args.n c.self.inside.parts)
+    ap (λ (h : HpetParts). (timer_at k h).config) c.pulse.ensures.taken.state ∙ timer_config-hpet_pulsed_times k c.args.n c.self.inside.parts)
 
 pub returns-clause-kept : goal.returns-clause-kept
 returns-clause-kept c = rw (← c.self.view_is) (
-    c.pulse.ensures.state
+    c.pulse.ensures.taken.state
     ∙ (kept-hpet_pulsed_times c.args.n c.self.inside.parts
-    ∙ ap (λ (h : HpetParts). record c.self.inside.parts { counter = h.counter; status = h.status; timer = h.timer }) (sym c.pulse.ensures.state)))
+    ∙ ap (λ (h : HpetParts). record c.self.inside.parts { counter = h.counter; status = h.status; timer = h.timer }) (sym c.pulse.ensures.taken.state)))

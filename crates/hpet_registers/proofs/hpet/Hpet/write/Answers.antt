@@ -6,9 +6,18 @@ use Rattle.hpet_registers.proofs.Laws.{status-register_written}
 use Rattle.hpet_registers.proofs.Halves.{hpet_written-halves}
 use Rattle.hpet_registers.proofs.hpet.Hpet.write.Goals as goal
 
+pub plan_of-self-inside-requires : goal.plan_of-self-inside-requires
+plan_of-self-inside-requires c = rw c.register_written-self-inside.ensures
+    (IsHpet-register_written c.register_at-register.result c.args.width _ c.args.v c.self.inside.parts c.self.invariant.valid
+    c.register_at-register.ensures.range)
+
 pub invariant_of-self : goal.invariant_of-self
-invariant_of-self c = rw c.register_written-self-inside.ensures
-    (IsHpet-register_written c.register_at-register.result c.args.width _ c.args.v c.self.inside.parts c.self.invariant c.register_at-register.ensures.range)
+invariant_of-self c = record {
+  valid = rw c.register_written-self-inside.ensures
+      (IsHpet-register_written c.register_at-register.result c.args.width _ c.args.v c.self.inside.parts c.self.invariant.valid
+      c.register_at-register.ensures.range);
+  planned = c.plan_of-self-inside.ensures;
+}
 
 pub returns-then-is_effective-clause-quiet : goal.returns-then-is_effective-clause-quiet
 returns-then-is_effective-clause-quiet c = rw (← c.self.view_is)
