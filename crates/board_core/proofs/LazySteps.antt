@@ -1,5 +1,5 @@
 -- A passive access before the horizon.
-use Rattle.std.proofs.Common.{◌≡◌, ℕ, ◌+◌, ◌-◌, ◌<◌, ◌≤◌, max, Bool, true, List, [], None, Result, Ok, Err, length}
+use Rattle.std.proofs.Common.{◌≡◌, ℕ, ◌+◌, ◌-◌, ◌<◌, ◌≤◌, max, Bool, true, List, [], None, length}
 use Rattle.std.proofs.Common.{refl, sym, subst, ap, ◌∙◌, arith, inl, inr}
 use Rattle.std.proofs.lemmas.Bool.{cases_lt}
 use Rattle.clk_units.specs.declared.ranges.TheConstants.{RANGE_NS}
@@ -10,7 +10,6 @@ use Rattle.local_apics.specs.Parts.{AreApicPlaces}
 use Rattle.board_types.specs.declared.access.Access.{Access}
 use Rattle.board_types.specs.declared.access.Access.TheVariants.{PortIn, Step}
 use Rattle.board_types.specs.declared.parts.BoardParts.{BoardParts}
-use Rattle.board_types.specs.declared.reply.Refusal.{Refusal}
 use Rattle.board_types.specs.declared.reply.Reply.{Reply}
 use Rattle.board_types.specs.declared.parts.TheConstants.{MOST_ACCESSES}
 use Rattle.board_devices.specs.Run.{Ran}
@@ -19,14 +18,14 @@ use Rattle.board_core.specs.private.Calls.{apics_ran_to}
 use Rattle.board_core.specs.Access.{ran_to, after_run, value_at, reply_of, after_access}
 use Rattle.board_core.specs.Apics.{apics_in, with_apics}
 use Rattle.board_core.specs.Conditions.{AreRises, IsJoined}
-use Rattle.std.specs.Prelude.{OnOk, OnErr}
-use Rattle.board_core.specs.Outcome.{IsOutcome}
+use Rattle.std.specs.Prelude.{IsSome}
+use Rattle.board_core.specs.Outcome.{HasTaken, IsRefused}
 use Rattle.board_core.specs.Quiet.{IsQuiet}
 use Rattle.board_core.specs.Refusals.{refusal_of}
 use Rattle.board_core.specs.Rises.{rises_after}
 use Rattle.board_core.specs.Time.{HasTime, devices_in, with_devices, now_of, time_of_access}
 use Rattle.board_core.proofs.Passive.{refusal_of-passive}
-use Rattle.board_core.proofs.Joins.{after_run-zero, now-after_run, edges-quiet, IsQuiet-after_run, after_access-idle, reply_of-quiet, refusal_of-after_run, step-taken, edges-later, reply_of-later, after_access-later}
+use Rattle.board_core.proofs.Joins.{after_run-zero, after_run-joined, now-after_run, edges-quiet, IsQuiet-after_run, after_access-idle, reply_of-quiet, refusal_of-after_run, step-taken, edges-later, reply_of-later, after_access-later}
 use Rattle.board_core.specs.Lazy.{is_passive, left_by, IsLazy, IsPassed}
 
 time-within : (anchor : Anchor) (q h : ℕ) → 0 < anchor.khz → HasTime anchor q → anchor.start ≤ h → h ≤ q → HasTime anchor h
@@ -41,6 +40,7 @@ IsQuiet-counted b n h quiet = record { time = quiet.time; edges = quiet.edges; m
 pub IsLazy-greatest : (b : BoardParts) (n host horizon : ℕ) → IsLazy b host horizon → IsLazy (record b { greatest = n }) host horizon
 IsLazy-greatest b n host horizon is = record {
   quiet = λ some. let q : IsQuiet b (horizon - 1) = is.quiet some in record { time = q.time; edges = q.edges; messages = q.messages; idle = q.idle };
+  from = is.from;
   time = is.time;
   lag = is.lag;
 }
@@ -91,6 +91,7 @@ after_run-left _ b h = refl
 pub IsLazy-left : (a : Access) (b : BoardParts) (host horizon : ℕ) → IsLazy b host horizon → IsLazy (left_by a b) host horizon
 IsLazy-left (PortIn port) b host horizon is = record {
   quiet = λ some. IsQuiet-read port b (horizon - 1) (is.quiet some);
+  from = is.from;
   time = is.time;
   lag = is.lag;
 }
@@ -104,17 +105,26 @@ apic-places b joined = record {
   policy = λ k less. (joined.apics.places.place k less).policy;
 }
 
-pub IsLazy-caught : (b : BoardParts) (host horizon : ℕ) → IsJoined b → IsLazy b host horizon → IsLazy (after_run b host) 0 horizon
+pub IsLazy-caught : (b : BoardParts) (host horizon : ℕ) → IsJoined b → IsLazy b host horizon → IsLazy (after_run b host) host horizon
+unfolding after_run
 IsLazy-caught b host horizon joined is = record {
   quiet = λ some. IsQuiet-after_run b (horizon - 1) host (omega (arith, joined.rates.host.slow)) (is.quiet some) is.lag (apic-places b joined);
-  time = λ none. absurd (omega (arith, none));
-  lag = omega arith;
+  from = λ some. omega (arith, is.from some);
+  time = is.time;
+  lag = is.lag;
 }
+
+-- a run to where it lags, done twice
+pub caught-again : (b : BoardParts) (host : ℕ) → IsJoined b → after_run (after_run b host) host ≡ after_run b host
+caught-again b host joined =
+    let same : max host host ≡ host = omega arith in
+    after_run-joined b host host (omega (arith, joined.rates.host.slow)) ∙ ap (after_run b) same
 
 -- a board that doesn't lag, and of which no horizon is known
 pub IsLazy-none : (b : BoardParts) → IsLazy b 0 0
 IsLazy-none b = record {
   quiet = λ none. absurd (omega (arith, none));
+  from = λ none. absurd (omega (arith, none));
   time = λ none. absurd (omega (arith, none));
   lag = omega arith;
 }
@@ -144,16 +154,23 @@ now-counted b n host h within =
     ap (λ (g : ℕ). now_of (after_run (record b { accesses = n }) g)) same
 
 module _ (b : BoardParts) (host horizon cpu h : ℕ) (joined : IsJoined b) (is : IsLazy b host horizon) (before : h < horizon)
-    (started : b.anchor.start ≤ h) where
+    (starts : h < host → b.anchor.start ≤ h) where
   runs : 0 < b.anchor.khz
   runs = omega (arith, joined.rates.host.slow)
 
   quiet : IsQuiet b (horizon - 1)
   quiet = is.quiet (omega (arith, before))
 
+  started : b.anchor.start ≤ h
+  started = elim (cases_lt h host) [
+    | inl lower ↦ starts lower
+    | inr later ↦ omega (arith, later, is.from (omega (arith, before)), joined.time.started)
+  ]
+
   pub IsLazy-step : (n : ℕ) → IsLazy (record b { accesses = n }) (max host h) horizon
   IsLazy-step n = record {
     quiet = λ some. IsQuiet-counted b n (horizon - 1) (is.quiet some);
+    from = λ some. omega (arith, is.from some);
     time = λ some. time-within b.anchor (horizon - 1) (max host h) runs quiet.time (omega (arith, started)) (omega (arith, before, is.lag));
     lag = omega (arith, before, is.lag);
   }
@@ -199,66 +216,38 @@ module _ (b : BoardParts) (host horizon cpu h : ℕ) (joined : IsJoined b) (is :
       range = range-step (b.accesses + 1);
     }
 
--- an access at a count that isn't before the one to which a board lags: one run takes the board there
-later-outcome : {T : Type 0} (b after new : BoardParts) (q g h cpu : ℕ) (a : Access) (result : Result T Refusal) (before told : Reply)
-    → 0 < b.anchor.khz → IsQuiet b q → g ≤ q → g ≤ h → OnOk result (new ≡ after) → OnErr result (new ≡ after_run b g)
-    → IsOutcome b cpu h a result after before told → IsOutcome (after_run b g) cpu h a result new before told
-later-outcome b after new q g h cpu a (Err refusal) before told runs quiet within later ok err is = record {
-  refused = refusal_of-after_run b cpu g h a ∙ is.refused;
-  unchanged = err;
-  untouched = is.untouched;
-  taken = tt;
-  reply = tt;
-  state = tt;
-  of_lines = tt;
-  few_run = tt;
-  few = tt;
-}
-later-outcome b after new q g h cpu a (Ok unit) before told runs quiet within later ok err is =
+-- an access at a count that isn't before the one to which a board lags: one run takes the board there. A board that
+-- doesn't lag is at 0
+taken-later : (b after : BoardParts) (q g h cpu : ℕ) (a : Access) (told : Reply) → 0 < b.anchor.khz → IsQuiet b q → g ≤ q → g ≤ h
+    → HasTaken b cpu h a after told → HasTaken (after_run b g) cpu h a after told
+taken-later b after q g h cpu a told runs quiet within later is =
     let same : (ran_to (after_run b g) h).edges ≡ (ran_to b h).edges = edges-later b q g h runs quiet within later in
     record {
-      refused = tt;
-      unchanged = tt;
-      untouched = tt;
       taken = refusal_of-after_run b cpu g h a ∙ is.taken;
       reply = is.reply ∙ sym (reply_of-later b q g h runs quiet within later cpu a);
-      state = ok ∙ is.state ∙ sym (after_access-later b q g h runs quiet within later cpu a);
+      state = is.state ∙ sym (after_access-later b q g h runs quiet within later cpu a);
       of_lines = is.of_lines;
       few_run = omega (arith, ap length same, is.few_run);
       few = omega (arith, ap length same, is.few);
     }
 
-as_new : {T : Type 0} (b after new : BoardParts) (cpu h : ℕ) (a : Access) (r : Result T Refusal) (before told : Reply)
-    → OnOk r (new ≡ after) → OnErr r (new ≡ b) → IsOutcome b cpu h a r after before told → IsOutcome b cpu h a r new before told
-as_new b after new cpu h a (Ok unit) before told ok err is = subst (λ (x : BoardParts). IsOutcome b cpu h a (Ok unit) x before told) (sym ok) is
-as_new {T} b after new cpu h a (Err refusal) before told ok err is =
-    subst (λ (x : BoardParts). IsOutcome {T = T} b cpu h a (Err refusal) x before told) (is.unchanged ∙ sym err) is
+pub taken-caught : (c b after new : BoardParts) (host horizon h cpu : ℕ) (a : Access) (told : Reply) → after_run b host ≡ c → 0 < b.anchor.khz
+    → IsLazy b host horizon → host ≤ h → new ≡ after → HasTaken b cpu h a after told → HasTaken c cpu h a new told
+taken-caught c b after new host horizon h cpu a told there rated lazy later same is =
+    let taken : HasTaken b cpu h a new told = subst (λ (x : BoardParts). HasTaken b cpu h a x told) (sym same) is in
+    subst (λ (x : BoardParts). HasTaken x cpu h a new told) there (elim (cases_lt 0 host) [
+      | inl lags ↦ taken-later b new (horizon - 1) host h cpu a told rated (lazy.quiet (omega (arith, lags, lazy.lag))) lazy.lag later taken
+      | inr none ↦
+          let zero : host ≡ 0 = omega (arith, none) in
+          subst (λ (x : BoardParts). HasTaken x cpu h a new told) (sym (ap (after_run b) zero ∙ after_run-zero b)) taken
+    ])
 
-outcome-caught : {T : Type 0} (b after new : BoardParts) (host horizon h cpu : ℕ) (a : Access) (result : Result T Refusal) (before told : Reply)
-    → 0 < b.anchor.khz → IsLazy b host horizon → host ≤ h → OnOk result (new ≡ after) → OnErr result (new ≡ after_run b host)
-    → IsOutcome b cpu h a result after before told → IsOutcome (after_run b host) cpu h a result new before told
-outcome-caught b after new host horizon h cpu a result before told rated lazy later ok err is = elim (cases_lt 0 host) [
-  | inl lags ↦ later-outcome b after new (horizon - 1) host h cpu a result before told rated
-      (lazy.quiet (omega (arith, lags, lazy.lag))) lazy.lag later ok err is
-  | inr none ↦
-      let zero : host ≡ 0 = omega (arith, none) in
-      let same : after_run b host ≡ b = ap (after_run b) zero ∙ after_run-zero b in
-      subst (λ (x : BoardParts). IsOutcome x cpu h a result new before told) (sym same)
-      (as_new b after new cpu h a result before told ok (subst (λ (x : BoardParts). OnErr result (new ≡ x)) same err) is)
-]
-
--- .. it is taken, or refused
-pub taken-caught : {T : Type 0} (c b after new : BoardParts) (host horizon h cpu : ℕ) (a : Access) (unit : T) (before told : Reply)
-    → after_run b host ≡ c → 0 < b.anchor.khz → IsLazy b host horizon → host ≤ h → new ≡ after
-    → IsOutcome b cpu h a (Ok unit) after before told → IsOutcome c cpu h a (Ok unit) new before told
-taken-caught c b after new host horizon h cpu a unit before told there rated lazy later same is =
-    subst (λ (x : BoardParts). IsOutcome x cpu h a (Ok unit) new before told) there
-    (outcome-caught b after new host horizon h cpu a (Ok unit) before told rated lazy later same tt is)
-
-pub refused-caught : {T : Type 0} (c b after : BoardParts) (host horizon h cpu : ℕ) (a : Access) (refusal : Refusal) (before told : Reply)
-    → after_run b host ≡ c → 0 < b.anchor.khz → IsLazy b host horizon → host ≤ h
-    → IsOutcome {T = T} b cpu h a (Err refusal) after before told → IsOutcome {T = T} c cpu h a (Err refusal) (after_run after host) before told
-refused-caught {T} c b after host horizon h cpu a refusal before told there rated lazy later is =
-    subst (λ (x : BoardParts). IsOutcome {T = T} x cpu h a (Err refusal) (after_run after host) before told) there
-    (outcome-caught {T = T} b after (after_run after host) host horizon h cpu a (Err refusal) before told rated lazy later tt
-    (ap (λ (x : BoardParts). after_run x host) is.unchanged) is)
+-- .. or a refusal
+pub refused-caught : (c b after : BoardParts) (host h cpu : ℕ) (a : Access) (before told : Reply) → after_run b host ≡ c
+    → IsRefused b cpu h a after before told → IsRefused c cpu h a (after_run after host) before told
+refused-caught c b after host h cpu a before told there is =
+    subst (λ (x : BoardParts). IsRefused x cpu h a (after_run after host) before told) there (record {
+      refused = subst IsSome (sym (refusal_of-after_run b cpu host h a)) is.refused;
+      unchanged = ap (λ (x : BoardParts). after_run x host) is.unchanged;
+      untouched = is.untouched;
+    })

@@ -40,10 +40,11 @@ abbrev pub left_by : Access → BoardParts → BoardParts
 left_by (PortIn port) b = record b { pit = after_port_read port b.pit }
 left_by _ b = b
 
--- before the horizon, if one is known, nothing comes that a caller sees; and a board that lags behind
--- count `host`, which is 0 where it doesn't, lags no further than that
+-- before the horizon, if one is known, nothing comes that a caller sees; the board lags to count `host`,
+-- which is before the horizon and not before the board's own count. With no horizon it is 0
 pub record IsLazy (b : BoardParts) (host horizon : ℕ) : Type 0 where
   pub quiet : 0 < horizon → IsQuiet b (horizon - 1)
+  pub from : 0 < horizon → b.host ≤ host
   pub time : 0 < host → HasTime b.anchor host
   pub lag : host ≤ horizon - 1
 
@@ -56,10 +57,10 @@ abbrev pub caught_up : BoardParts → Lag → BoardParts
 caught_up b lag = after_run b lag.host
 
 -- a passive access at count h is only counted: it comes before the horizon, its count has a
--- time, and there are numbers left for it
+-- time, as each has from the greatest count on, and there are numbers left for it
 pub record IsCounted (b : BoardParts) (lag : Lag) (h : ℕ) : Type 0 where
   pub before : h < lag.horizon
-  pub started : b.anchor.start ≤ h
+  pub started : h < lag.host → b.anchor.start ≤ h
   pub spare : b.accesses < MOST_ACCESSES
 
 -- board b takes access a of processor cpu at count h, whose number is that; it brings no edge and no

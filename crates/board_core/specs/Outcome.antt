@@ -11,6 +11,7 @@ use Rattle.std.specs.Prelude.{
   Some,
   None,
   IsTrue,
+  IsSome,
   IfOk,
   IfErr,
   OnOk,
@@ -39,6 +40,24 @@ pub record IsAsked (b : BoardParts) (processor : ℕ) (a : Access) (reply : Repl
   pub cpu : processor < b.cpus
   pub legal : IsTrue (is_legal b.cpus b.format a)
   pub fresh : IsFresh reply
+
+-- board b took access a of processor cpu at count h: board and reply are then `after` and `told`; the run
+-- to the access's time brings at most six edges, and the access itself twelve
+pub record HasTaken (b : BoardParts) (cpu h : ℕ) (a : Access) (after : BoardParts) (told : Reply)
+    : Type 0 where
+  pub taken : refusal_of b cpu h a ≡ None
+  pub reply : told ≡ reply_of b cpu h a
+  pub state : after ≡ after_access b cpu h a
+  pub of_lines : All IsOfLine told.edges
+  pub few_run : length (ran_to b h).edges ≤ 6
+  pub few : length told.edges ≤ length (ran_to b h).edges + 12
+
+-- or refused it, and is what it was, as the reply is
+pub record IsRefused (b : BoardParts) (cpu h : ℕ) (a : Access) (after : BoardParts)
+    (before told : Reply) : Type 0 where
+  pub refused : IsSome (refusal_of b cpu h a)
+  pub unchanged : after ≡ b
+  pub untouched : told ≡ before
 
 -- board b was asked access a of processor cpu at count h: board and reply, which was `before`, are then
 -- `after` and `told`; the run to the access's time brings at most six edges, and the access itself twelve

@@ -24,8 +24,8 @@ ghost use Rattle.board_core.specs.Apics.{after_look};
 ghost use Rattle.board_core.specs.Time.{now_of};
 ghost use Rattle.board_core.specs.Access.{ran_to, reply_of, after_access};
 ghost use Rattle.board_core.specs.Refusals.{refusal_of};
-ghost use Rattle.board_core.specs.Outcome.{IsAsked, IsOutcome};
-ghost use Rattle.board_core.specs.private.Calls.{CanRun, HasRun, HasTaken, IsRefused};
+ghost use Rattle.board_core.specs.Outcome.{IsAsked, IsOutcome, HasTaken, IsRefused};
+ghost use Rattle.board_core.specs.private.Calls.{CanRun, HasRun};
 
 use crate::apics::run_apics;
 use crate::board::BoardState;
@@ -56,7 +56,6 @@ impl BoardState {
 
     /// The same into a reply that its caller keeps, without edges and messages in it (`Reply::clear`). It copies no reply,
     /// so it is the faster of the two.
-    // A refusal is large: it is computed where an access wasn't taken, and given back by no other call.
     #[inline(always)]
     pub fn answer(&mut self, cpu: u8, h: u64, a: Access, reply: &mut Reply) -> Result<(), Refusal>
         requires { IsAsked self.old cpu a reply.old }
@@ -69,10 +68,11 @@ impl BoardState {
         }
     }
 
-    /// Takes an access, unless it is refused. It holds code for each kind of access that guests make often: a small caller
-    /// takes all of it in, and a large one calls it.
+    /// Takes an access as `answer` does, unless it is refused; `refusal` says why. A refusal is large, and its place costs each
+    /// access of a caller that keeps one: a caller to whom refusals are rare asks for it apart. This holds code for each kind of
+    /// access that guests make often: a small caller takes all of it in, and a large one calls it.
     #[inline(always)]
-    fn take(&mut self, cpu: u8, h: u64, a: Access, reply: &mut Reply) -> bool
+    pub fn take(&mut self, cpu: u8, h: u64, a: Access, reply: &mut Reply) -> bool
         requires { IsAsked self.old cpu a reply.old }
         ensures taken { OnTrue result (HasTaken self.old cpu h a self.new reply.new) }
         ensures left { OnFalse result (IsRefused self.old cpu h a self.new reply.old reply.new) }
@@ -115,7 +115,7 @@ impl BoardState {
     /// Why an access is refused that is.
     #[cold]
     #[inline(never)]
-    fn refusal(&self, cpu: u8, h: u64, a: Access) -> Refusal
+    pub fn refusal(&self, cpu: u8, h: u64, a: Access) -> Refusal
         requires cpu { cpu < self.now.cpus }
         requires legal { IsTrue (is_legal self.now.cpus self.now.format a) }
         requires refused { IsSome (refusal_of self.now cpu h a) }

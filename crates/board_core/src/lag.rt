@@ -11,7 +11,8 @@ ghost use Rattle.board_types.specs.declared.parts.TheConstants.{MOST_ACCESSES};
 ghost use Rattle.board_core.specs.Time.{HasTime, now_of, time_of_access};
 ghost use Rattle.board_core.specs.Access.{after_run, value_at};
 ghost use Rattle.board_core.specs.Conditions.{IsJoined};
-ghost use Rattle.board_core.specs.Outcome.{IsAsked, IsOutcome, IsClockRead};
+ghost use Rattle.std.specs.Bool.{OnTrue, OnFalse};
+ghost use Rattle.board_core.specs.Outcome.{IsAsked, HasTaken, IsRefused, IsClockRead};
 ghost use Rattle.board_core.specs.Quiet.{IsQuiet};
 ghost use Rattle.board_core.specs.Lazy.{
   is_passive,
@@ -25,7 +26,7 @@ ghost use Rattle.board_core.specs.Lazy.{
 use crate::board::BoardState;
 use crate::refusals::known_time;
 use board_devices::Devices;
-use board_types::{Access, MOST_ACCESSES, Refusal, Reply, Value};
+use board_types::{Access, MOST_ACCESSES, Reply, Value};
 use clk_units::RANGE_NS;
 use host_counter::{Anchor, TimeFault};
 use irq_edges::{BurstList, EdgeList};
@@ -46,7 +47,7 @@ const STILL: u8 = 8;
 #[derive(Clone, Copy)]
 #[repr(C)]
 pub struct Lag {
-    /// The greatest count of those that the board doesn't know, or 0.
+    /// The greatest count of all accesses, where a horizon is known; else 0.
     pub host: u64,
     /// Before this count nothing comes that a caller sees; 0 where that isn't known.
     pub horizon: u64,
@@ -62,77 +63,75 @@ pub const NO_LAG: Lag = Lag {
 };
 
 impl BoardState {
-    /// Brings a board that lags up to its time.
+    /// Brings a board that lags up to its time. With the same lag it may lag on from there.
     #[inline(always)]
-    pub fn catch_up(&mut self, lag: &mut Lag)
-        requires { IsLazy self.old lag.old.host lag.old.horizon }
-        ensures state { self.new ≡ caught_up self.old lag.old }
-        ensures lag { lag.new ≡ record lag.old { host = 0 } }
-        ensures same { caught_up self.new lag.new ≡ self.new }
-        ensures lazy { IsLazy self.new lag.new.host lag.new.horizon }
+    pub fn catch_up(&mut self, lag: &Lag)
+        requires { IsLazy self.old lag.now.host lag.now.horizon }
+        ensures state { self.new ≡ caught_up self.old lag.now }
+        ensures same { caught_up self.new lag.now ≡ self.new }
+        ensures lazy { IsLazy self.new lag.now.host lag.now.horizon }
     {
         // What joins a board's parts gives its counter a rate.
         let _cpus = self.cpus();
         self.pass_to(lag.host);
-        lag.host = 0;
     }
 
-    /// One access, as `answer` answers it. A passive one is only counted before the horizon.
+    /// Takes one access as `take` does. A passive one is only counted before the horizon.
     #[inline(always)]
-    pub fn answer_lagging(
+    pub fn take_lagging(
         &mut self,
         lag: &mut Lag,
         cpu: u8,
         h: u64,
         a: Access,
         reply: &mut Reply,
-    ) -> Result<(), Refusal>
+    ) -> bool
         requires lazy { IsLazy self.old lag.old.host lag.old.horizon }
         requires asked { IsAsked (caught_up self.old lag.old) cpu a reply.old }
-        ensures outcome { IsOutcome (caught_up self.old lag.old) cpu h a result
-            (caught_up self.new lag.new) reply.old reply.new }
+        ensures taken { OnTrue result (HasTaken (caught_up self.old lag.old) cpu h a
+            (caught_up self.new lag.new) reply.new) }
+        ensures left { OnFalse result (IsRefused (caught_up self.old lag.old) cpu h a
+            (caught_up self.new lag.new) reply.old reply.new) }
         ensures lazy { IsLazy self.new lag.new.host lag.new.horizon }
     {
         let passive = is_passive(a);
         if passive && self.counts(lag, h) {
             let _later = self.count(lag, h);
             reply.number = self.accesses;
-            reply.value = match a {
-                Access::Step => Value::Nothing,
-                _ => self.counted_value(lag, a),
-            };
-            return Ok(());
+            match a {
+                Access::Step => reply.value = Value::Nothing,
+                _ => self.read_counted(lag, a, &mut reply.value),
+            }
+            return true;
         }
         self.catch_up_before(lag, h);
         // What joins a board's parts gives its counter a rate.
         let _cpus = self.cpus();
         // One run takes the board from where it lags to the access.
-        match self.answer(cpu, h, a, reply) {
-            Ok(()) => {
-                *lag = if passive {
-                    self.lag_after(lag.still, reply.edges.is_empty())
-                } else {
-                    NO_LAG // whatever the access changes
-                };
-                Ok(())
-            }
-            Err(refusal) => Err(refusal),
+        if !self.take(cpu, h, a, reply) {
+            return false;
         }
+        if passive {
+            self.lag_on(lag, reply.edges.is_empty());
+        } else {
+            *lag = NO_LAG; // whatever the access changes
+        }
+        true
     }
 
     /// What an access that is counted reads, at the time of all counts.
     // Inlined, it makes the answer to a line too large to be inlined in the loop over lines, which costs each line 29
     // instructions.
     #[inline(never)]
-    fn counted_value(&mut self, lag: &Lag, a: Access) -> Value
+    fn read_counted(&mut self, lag: &Lag, a: Access, value: &mut Value)
         requires passive { IsTrue (is_passive a) }
         requires lazy { IsLazy self.old lag.now.host lag.now.horizon }
-        ensures value { (cpu g : ℕ) → result ≡ value_at (caught_up self.old lag.now) cpu g a }
+        ensures value { (cpu g : ℕ) → value.new ≡ value_at (caught_up self.old lag.now) cpu g a }
         ensures state { caught_up self.new lag.now ≡ left_by a (caught_up self.old lag.now) }
         ensures lazy { IsLazy self.new lag.now.host lag.now.horizon }
     {
         let now_ns = self.lagging_now(lag);
-        self.take_passive(lag, now_ns, a)
+        *value = self.take_passive(lag, now_ns, a);
     }
 
     /// Brings a board up to its time that lags beyond count `h`. Another may lag on.
@@ -145,20 +144,27 @@ impl BoardState {
     {
         if h < lag.host {
             self.catch_up(lag);
+            *lag = NO_LAG;
         }
     }
 
-    /// The lag after a passive access, which brought no edge or did. After enough without one the horizon is looked for.
-    #[inline(never)]
-    fn lag_after(&self, still: u8, no_edge: bool) -> Lag
-        ensures known { 0 < result.horizon → IsQuiet self.now (result.horizon - 1) }
-        ensures up { result.host ≡ 0 }
+    /// How far a board may lag after a passive access, up to which its devices have run, and which brought no edge or did.
+    /// After enough without one the horizon is looked for.
+    #[inline(always)]
+    fn lag_on(&self, lag: &mut Lag, no_edge: bool)
+        ensures same { caught_up self.now lag.new ≡ self.now }
+        ensures lazy { IsLazy self.now lag.new.host lag.new.horizon }
     {
-        let still = more_still(still, no_edge);
-        Lag {
-            host: 0,
-            horizon: horizon_of(self, still == STILL),
-            still,
+        // What joins a board's parts gives its counter a rate.
+        let _cpus = self.cpus();
+        lag.still = more_still(lag.still, no_edge);
+        lag.host = 0;
+        lag.horizon = 0;
+        if lag.still == STILL {
+            lag.horizon = self.quiet_before();
+            if lag.horizon > 0 {
+                lag.host = self.host;
+            }
         }
     }
 
@@ -167,23 +173,29 @@ impl BoardState {
     pub fn counts(&self, lag: &Lag, h: u64) -> bool
         ensures { result ≡ true → IsCounted self.now lag.now h }
     {
-        h < lag.horizon && self.anchor.start <= h && self.accesses < MOST_ACCESSES
+        h < lag.horizon
+            && (lag.host <= h || self.anchor.start <= h)
+            && self.accesses < MOST_ACCESSES
     }
 
-    /// Counts it, and answers whether the board's time may be another then. What it reads, and leaves, is still to come.
+    /// Counts it, and answers whether it moves the board's time: its count is beyond those before. What it reads, and leaves, is
+    /// still to come.
     #[inline(always)]
     pub fn count(&mut self, lag: &mut Lag, h: u64) -> bool
         requires lazy { IsLazy self.old lag.old.host lag.old.horizon }
         requires counted { IsCounted self.old lag.old h }
         ensures passed { (cpu : ℕ) (a : Access) → is_passive a ≡ true
             → IsPassed (caught_up self.old lag.old) cpu h a self.new.accesses (caught_up self.new lag.new) }
+        ensures later { result ≡ true → self.new.host < lag.new.host }
         ensures now { result ≡ false
             → now_of (caught_up self.new lag.new) ≡ now_of (caught_up self.old lag.old) }
         ensures lazy { IsLazy self.new lag.new.host lag.new.horizon }
     {
         self.count_access();
         let later = h > lag.host;
-        lag.host = lag.host.max(h);
+        if later {
+            lag.host = h;
+        }
         later
     }
 
@@ -211,6 +223,19 @@ impl BoardState {
         self.time_by(lag.host)
     }
 
+    /// The same after a count beyond the board's own, as `count` answers.
+    #[inline(always)]
+    pub fn later_now(&self, lag: &Lag) -> u64
+        requires lazy { IsLazy self.now lag.now.host lag.now.horizon }
+        requires later { self.now.host < lag.now.host }
+        ensures value { result ≡ now_of (caught_up self.now lag.now) }
+        ensures range { result < RANGE_NS }
+    {
+        // What joins a board's parts gives its counter a rate.
+        let _cpus = self.cpus();
+        self.time_beyond(lag.host)
+    }
+
     /// The time to which an access at count `h` would run.
     pub(crate) fn time_by(&self, h: u64) -> u64
         requires { self.now.host < h → HasTime self.now.anchor h }
@@ -220,6 +245,16 @@ impl BoardState {
         if h <= self.host {
             return self.time_ns;
         }
+        self.time_beyond(h)
+    }
+
+    /// The same where `h` is beyond the board's count.
+    #[inline(always)]
+    fn time_beyond(&self, h: u64) -> u64
+        requires { HasTime self.now.anchor h }
+        ensures value { result ≡ time_of_access self.now h }
+        ensures range { result < RANGE_NS }
+    {
         known_time(self.anchor, h).max(self.time_ns)
     }
 
@@ -302,7 +337,8 @@ impl BoardState {
     /// next edge, and costs as much.
     #[inline(never)]
     fn quiet_before(&self) -> u64
-        ensures { 0 < result → IsQuiet self.now (result - 1) }
+        ensures quiet { 0 < result → IsQuiet self.now (result - 1) }
+        ensures beyond { 0 < result → self.now.host < result }
     {
         if self.apics.is_armed() {
             return 0;
@@ -311,7 +347,7 @@ impl BoardState {
         let quiet = silent_to(&self.devices, self.time_ns, still);
         let last = last_count(self.anchor, quiet);
         match self.anchor.time(last) {
-            Ok(ns) if ns <= quiet => last + 1,
+            Ok(ns) if ns <= quiet && self.host <= last => last + 1,
             _ => 0,
         }
     }
@@ -391,12 +427,4 @@ fn more_still(before: u8, still: bool) -> u8 {
     } else {
         0
     }
-}
-
-/// The count before which nothing comes that a caller sees, where it is wanted; 0 where none is known.
-#[inline(always)]
-fn horizon_of(board: &BoardState, wanted: bool) -> u64
-    ensures { 0 < result → IsQuiet board.now (result - 1) }
-{
-    if wanted { board.quiet_before() } else { 0 }
 }

@@ -8,10 +8,13 @@
 //!
 //! How far nothing comes is looked up after some such accesses in a row that brought no edge, since it costs as much as
 //! the next edge, some eight runs. Any other access forgets it.
-ghost use Rattle.std.specs.Prelude.{◌≡◌, ◌<◌, IfOk, IfErr, OnOk};
+ghost use Rattle.std.specs.Prelude.{◌≡◌, ◌<◌, IsTrue, IsSome, Some, IfOk, IfErr, OnOk};
+ghost use Rattle.std.specs.Bool.{OnTrue, OnFalse};
 ghost use Rattle.host_counter.specs.Time.{IsFaultAt};
 ghost use Rattle.board_core.specs.Time.{HasTime, now_of};
-ghost use Rattle.board_core.specs.Outcome.{IsAsked, IsOutcome, IsPageRead, IsClockRead};
+ghost use Rattle.board_types.specs.Legal.{is_legal};
+ghost use Rattle.board_core.specs.Refusals.{refusal_of};
+ghost use Rattle.board_core.specs.Outcome.{IsAsked, HasTaken, IsRefused, IsPageRead, IsClockRead};
 ghost use Rattle.board_core.specs.Hv.{hv_reply};
 
 use crate::board::BoardState;
@@ -59,18 +62,32 @@ impl LazyBoard {
         ensures* writes_back { sem 𝓛 (Lends the_row board_row self.entry result (λ b. b)) }
         ensures value { result.now ≡ self.old }
     {
-        self.board.catch_up(&mut self.lag);
+        self.board.catch_up(&self.lag);
         self.lag = NO_LAG; // whatever its caller changes
         &mut self.board
     }
 
-    /// One access, into a reply that its caller keeps, without edges and messages in it, as `BoardState::answer` does it.
+    /// Takes one access, unless it is refused, into a reply that its caller keeps, without edges and messages in it, as
+    /// `BoardState::take` does it; `refusal` says why.
     #[inline(always)]
-    pub fn answer(&mut self, cpu: u8, h: u64, a: Access, reply: &mut Reply) -> Result<(), Refusal>
+    pub fn take(&mut self, cpu: u8, h: u64, a: Access, reply: &mut Reply) -> bool
         requires { IsAsked self.old cpu a reply.old }
-        ensures { IsOutcome self.old cpu h a result self.new reply.old reply.new }
+        ensures taken { OnTrue result (HasTaken self.old cpu h a self.new reply.new) }
+        ensures left { OnFalse result (IsRefused self.old cpu h a self.new reply.old reply.new) }
     {
-        self.board.answer_lagging(&mut self.lag, cpu, h, a, reply)
+        self.board.take_lagging(&mut self.lag, cpu, h, a, reply)
+    }
+
+    /// Why an access is refused that is.
+    #[cold]
+    #[inline(never)]
+    pub fn refusal(&self, cpu: u8, h: u64, a: Access) -> Refusal
+        requires cpu { cpu < self.now.cpus }
+        requires legal { IsTrue (is_legal self.now.cpus self.now.format a) }
+        requires refused { IsSome (refusal_of self.now cpu h a) }
+        ensures { refusal_of self.now cpu h a ≡ Some result }
+    {
+        self.board.refusal(cpu, h, a)
     }
 
     /// How many processors there are.

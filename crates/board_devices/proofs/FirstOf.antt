@@ -1,5 +1,5 @@
 -- The first event of a stretch.
-use Rattle.std.proofs.Common.{◌≡◌, ℕ, zero, suc, ◌/◌, ◌%◌, ◌^◌, ◌<◌, ltb, Option, None, inl, inr, arith}
+use Rattle.std.proofs.Common.{◌≡◌, ℕ, zero, suc, ◌+◌, ◌-◌, ◌/◌, ◌%◌, ◌^◌, ◌<◌, ◌≤◌, ◌↔◌, ltb, Option, Some, None, inl, inr, arith}
 use Rattle.std.proofs.lemmas.Bool.{cases_lt, lt-ltb, le-ltb, eq-eqb, ne_eqb}
 use Rattle.clk_units.specs.Events.{CountsUp, IsFirst}
 use Rattle.clk_units.proofs.Events.{IsFirst-more, IsFirst-one}
@@ -47,8 +47,26 @@ pub match-standing : (k n : ℕ) (h : HpetParts) → h.config % 2 ≡ 0 → None
 match-standing k n h even =
     first-is (matches_of k h) (CountsUp-matches_of k h) n None (matches_of-standing k n h (ne_eqb (h.config / 2 ^ 0 % 2) 1 (λ e. omega arith)))
 
-pub match-running : (k n : ℕ) (h : HpetParts) (first : Option ℕ) → (h.config % 2 ≡ 0 → ⊥) → h.counter < 2 ^ 64 → k < h.timers
+match-running : (k n : ℕ) (h : HpetParts) (first : Option ℕ) → (h.config % 2 ≡ 0 → ⊥) → h.counter < 2 ^ 64 → k < h.timers
     → IsFirst (matches_in h.counter (timer_at k h)) n first → first ≡ first_of (matches_of k h) n
 match-running k n h first odd fits inside is =
     first-is (matches_of k h) (CountsUp-matches_of k h) n first
     (IsFirst-running k n h first (eq-eqb (h.config / 2 ^ 0 % 2) 1 (omega arith)) fits inside is)
+
+-- .. which has b pulses before its next match
+pub match-later : (k n b : ℕ) (h : HpetParts) → (h.config % 2 ≡ 0 → ⊥) → h.counter < 2 ^ 64 → k < h.timers
+    → ((m : ℕ) → (m ≤ b) ↔ (matches_in h.counter (timer_at k h) m ≡ 0)) → n ≤ b → None ≡ first_of (matches_of k h) n
+match-later k n b h odd fits inside quiet few = match-running k n h None odd fits inside ((quiet n).0 few)
+
+pub match-next : (k n b : ℕ) (h : HpetParts) → (h.config % 2 ≡ 0 → ⊥) → h.counter < 2 ^ 64 → k < h.timers
+    → ((m : ℕ) → (m ≤ b) ↔ (matches_in h.counter (timer_at k h) m ≡ 0)) → b < n → Some (b + 1) ≡ first_of (matches_of k h) n
+match-next k n b h odd fits inside quiet more =
+    match-running k n h (Some (b + 1)) odd fits inside (
+      omega arith,
+      omega (arith, more),
+      (quiet (b + 1 - 1)).0 (omega arith),
+      elim (cases_lt 0 (matches_in h.counter (timer_at k h) (b + 1))) [
+        | inl some ↦ some
+        | inr none ↦ absurd (omega (arith, (quiet (b + 1)).1 (omega (arith, none))))
+      ],
+    )

@@ -6,6 +6,8 @@ ghost use Rattle.std.specs.Prelude.{
   ◌≤◌,
   ◌^◌,
   ◌∷◌,
+  ◌&&◌,
+  not,
   [],
   None,
   Some,
@@ -25,7 +27,7 @@ use rtc_registers::{RTC_HZ, Rtc, RtcEvents};
 
 /// The earlier of two times.
 #[tactic(auto, unfolding(crate::specs::private::Stretch::either_from))]
-fn either_from(a: Option<u64>, b: Option<u64>) -> Option<u64>
+pub(crate) fn either_from(a: Option<u64>, b: Option<u64>) -> Option<u64>
     ensures { result ≡ either_from a b }
 {
     match a {
@@ -61,6 +63,16 @@ pub(crate) struct Shown {
     pub(crate) uie: bool,
 }
 
+impl Shown {
+    /// Whether IRQF is the tick line: the other interrupts are disabled, as most guests leave them.
+    #[inline(always)]
+    pub(crate) fn is_tick_line(self) -> bool
+        ensures { result ≡ (not self.aie && not self.uie) }
+    {
+        !self.aie && !self.uie
+    }
+}
+
 /// What the clock shows.
 pub(crate) fn shown_of(rtc: &Rtc) -> Shown
     ensures pie { result.pie ≡ pie_of rtc.now }
@@ -79,7 +91,6 @@ pub(crate) fn shown_of(rtc: &Rtc) -> Shown
 }
 
 /// From when on IRQF is up, by what the clock showed before, by its tick line and by its events.
-/// With its other interrupts disabled, as most guests leave them, it is the tick line.
 pub(crate) fn irq_up(shown: Shown, line: Option<u64>, events: &RtcEvents, span: Span) -> Option<u64>
     requires order { span.from ≤ span.to }
     requires range { span.to < 2 ^ 59 }
@@ -92,17 +103,30 @@ pub(crate) fn irq_up(shown: Shown, line: Option<u64>, events: &RtcEvents, span: 
         (flag_from shown.uie shown.uf span.from
         (first_at RTC_HZ span.from events.now.cycle.first_update))) }
 {
-    if !shown.aie && !shown.uie {
+    if shown.is_tick_line() {
         return line;
     }
+    either_from(line, flags_up(shown, events, span))
+}
+
+/// From when on its other flags bring IRQF up: AF and UF, where their interrupts are enabled.
+pub(crate) fn flags_up(shown: Shown, events: &RtcEvents, span: Span) -> Option<u64>
+    requires order { span.from ≤ span.to }
+    requires range { span.to < 2 ^ 59 }
+    requires alarm { IfSome events.now.first_alarm (λ j. j
+        ≤ pulses_from RTC_HZ span.from (span.to - span.from)) }
+    requires update { IfSome events.now.cycle.first_update (λ j. j
+        ≤ pulses_from RTC_HZ span.from (span.to - span.from)) }
+    ensures { result ≡ either_from
+        (flag_from shown.aie shown.af span.from (first_at RTC_HZ span.from events.now.first_alarm))
+        (flag_from shown.uie shown.uf span.from
+        (first_at RTC_HZ span.from events.now.cycle.first_update)) }
+{
     let alarm = first_at(events.first_alarm, RTC_HZ, span.from, span.to);
     let update = first_at(events.cycle.first_update, RTC_HZ, span.from, span.to);
     either_from(
-        line,
-        either_from(
-            flag_from(shown.aie, shown.af, span.from, alarm),
-            flag_from(shown.uie, shown.uf, span.from, update),
-        ),
+        flag_from(shown.aie, shown.af, span.from, alarm),
+        flag_from(shown.uie, shown.uf, span.from, update),
     )
 }
 

@@ -25,7 +25,7 @@ ghost use Rattle.hpet_comparator.specs.Parts.{is_enabled};
 ghost use Rattle.hpet_registers.specs.Parts.{timer_at};
 ghost use Rattle.hpet_registers.specs.Outputs.{has_ticks, is_message};
 ghost use Rattle.hpet_registers.specs.Stretch.{matches_of};
-ghost use Rattle.tick_policy.specs.Stretch.{is_caught, up_from};
+ghost use Rattle.tick_policy.specs.Stretch.{up_from};
 ghost use Rattle.board_devices.specs.Places.{line_at};
 ghost use Rattle.board_devices.specs.Run.{IsStretch, IsNextEdge};
 ghost use Rattle.board_devices.specs.private.Pulses.{ArePulses};
@@ -46,17 +46,16 @@ ghost use Rattle.board_devices.specs.private.Runs.{IsEdgeBy};
 
 use crate::clock::counts_rtc;
 use crate::devices::Devices;
-use crate::levels::{add_rise, irq_up, shown_of, slot_of};
+use crate::levels::{add_rise, either_from, flags_up, shown_of, slot_of};
 use crate::pulse_counts::{PulseCounts, pulse_counts};
 use crate::run::next_point;
 use crate::stretch::Span;
 use clk_units::{RANGE_NS, first_at};
-use hpet_comparator::Timer;
 use hpet_registers::{HPET_HZ, Hpet};
 use irq_edges::next_rise;
 use pit_readback::{PIT_HZ, Pit};
 use rtc_registers::{RTC_HZ, Rtc};
-use tick_policy::TickLine;
+use tick_policy::up_from;
 
 /// How far an edge is looked for at first (own).
 const SOON_NS: u64 = 1 << 26;
@@ -181,7 +180,7 @@ impl Devices {
             return Some(span.from);
         }
         let first = first_at(first_rise(&self.pit, n), PIT_HZ, span.from, span.to);
-        up_from(line, first, span)
+        up_from(line, span.from, span.to, span.point, first)
     }
 
     /// From when on the tick line of the MC146818 is up.
@@ -200,7 +199,7 @@ impl Devices {
             return None;
         }
         let first = first_at(first_tick(&self.rtc, n), RTC_HZ, span.from, span.to);
-        up_from(line, first, span)
+        up_from(line, span.from, span.to, span.point, first)
     }
 
     /// From when on IRQF is up: with its other interrupts disabled, as most guests leave them, that is
@@ -214,12 +213,12 @@ impl Devices {
     {
         let line = self.clock_line_up(n, span);
         let shown = shown_of(&self.rtc);
-        if !shown.aie && !shown.uie {
+        if shown.is_tick_line() {
             return line;
         }
         let mut rtc = self.rtc;
         let events = rtc.pulses(n);
-        irq_up(shown, line, &events, span)
+        either_from(line, flags_up(shown, &events, span))
     }
 
     /// From when on the output of timer `k` is up.
@@ -280,10 +279,10 @@ impl Devices {
             return Some(span.from);
         }
         if !self.hpet.has_ticks(k) {
-            return up_from(line, None, span);
+            return up_from(line, span.from, span.to, span.point, None);
         }
         let first = first_at(first_match(&self.hpet, k, n), HPET_HZ, span.from, span.to);
-        up_from(line, first, span)
+        up_from(line, span.from, span.to, span.point, first)
     }
 }
 
@@ -320,33 +319,9 @@ fn first_match(h: &Hpet, k: u8, n: u64) -> Option<u64>
     if parts.config % 2 == 0 {
         return None;
     }
-    let fields = h.timer(k);
-    let mut timer = Timer::of_valid_parts(fields);
-    let matches = timer.pulses(parts.counter, n);
-    matches.first
-}
-
-/// From when on a line is up whose first tick comes at `first`, or none of whose ticks is due.
-#[inline(always)]
-fn up_from(line: &TickLine, first: Option<u64>, span: Span) -> Option<u64>
-    ensures { result ≡ up_from span.from span.point span.to first line.now }
-{
-    if line.is_up() {
-        Some(span.from)
-    } else if line.is_waiting() && is_caught(first, span) {
-        Some(span.point)
-    } else {
-        first
+    let before = h.timer(k).pulses_before(parts.counter);
+    if n <= before {
+        return None;
     }
-}
-
-/// Whether the first catch-up point comes in the stretch, and before the first tick.
-#[inline(always)]
-fn is_caught(first: Option<u64>, span: Span) -> bool
-    ensures { result ≡ is_caught span.point span.to first }
-{
-    match first {
-        None => span.point <= span.to,
-        Some(at) => span.point <= span.to && span.point < at,
-    }
+    Some(before + 1)
 }

@@ -40,7 +40,6 @@ use crate::devices::Devices;
 use crate::found_up::{brought_nothing, finds_up, take_matches};
 use crate::levels::{front_times, irq_up, shown_of};
 use crate::pulse_counts::{PulseCounts, pulse_counts};
-use crate::quiet::pulse_hpet;
 use crate::stretch::{Span, count_ticks, run_clock, run_pit, run_timers};
 use hpet_comparator::Matches;
 use irq_edges::{Edge, EdgeList, emit};
@@ -88,7 +87,7 @@ impl Devices {
         let status = self.hpet.parts().status;
         let point = next_point(from, self.slew_ns);
         let mut matches = [Matches::NONE; 8];
-        let reach = pulse_hpet(&mut self.hpet, pulses.hpet, &mut matches);
+        let reach = self.hpet.pulses(pulses.hpet, &mut matches);
         let rises = self.pit.pulses(pulses.pit);
         let shown = shown_of(&self.rtc);
         let events = self.rtc.pulses(pulses.rtc);

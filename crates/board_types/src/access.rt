@@ -13,6 +13,7 @@ ghost use Rattle.board_types.specs.Legal.{
 };
 
 use crate::setup::{APIC_FORMAT, HV_FORMAT, timers_of};
+use irq_edges::is_line;
 use pit_readback::is_pit_port;
 
 /// IA32_TIME_STAMP_COUNTER: the processor's TSC (Intel SDM, volume 4).
@@ -158,14 +159,6 @@ fn is_hv_msr(msr: u32) -> bool
     ensures { result ≡ is_hv_msr msr }
 {
     msr == MSR_HV_TIME_REF_COUNT || msr == MSR_HV_REFERENCE_TSC
-}
-
-/// Whether a line is one of the six: 0, 8 and 20 to 23.
-#[inline(always)]
-pub fn is_line(line: u8) -> bool
-    ensures { result ≡ is_line line }
-{
-    matches!(line, 0 | 8 | 20 | 21 | 22 | 23)
 }
 
 /// Whether an access to the HPET lies in its block of 400h bytes, with a width that a processor has: 1, 2, 4 or 8 bytes.

@@ -19,7 +19,7 @@ mod setup;
 pub use access::{
     Access, MSR_APIC_CURRENT, MSR_APIC_DIVIDE, MSR_APIC_INITIAL, MSR_APIC_LVT,
     MSR_HV_REFERENCE_TSC, MSR_HV_TIME_REF_COUNT, MSR_KVM_SYSTEM_TIME, MSR_KVM_WALL_CLOCK, MSR_TSC,
-    MSR_TSC_ADJUST, MSR_TSC_DEADLINE, TickSource, is_hpet_place, is_line, is_port,
+    MSR_TSC_ADJUST, MSR_TSC_DEADLINE, TickSource, is_hpet_place, is_port,
 };
 pub use parts::{BoardParts, HvParts, LAST_VERSION, MOST_ACCESSES, ProcessorParts};
 pub use reply::{Ran, Refusal, Reply, Value};

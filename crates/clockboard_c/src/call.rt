@@ -1,5 +1,9 @@
 //! One access to a board that C holds.
-ghost use Rattle.std.specs.Prelude.{◌≡◌, ◌&&◌, true, false, None};
+ghost use Rattle.std.specs.Prelude.{◌≡◌, ◌<◌, ◌&&◌, true, false, IsSome, Some, None};
+ghost use Rattle.board_types.specs.declared.reply.Refusal.{Refusal};
+ghost use Rattle.board_core.specs.Refusals.{refusal_of};
+ghost use Rattle.clockboard_c.specs.Codes.{code_of};
+ghost use Rattle.clockboard_c.specs.Replies.{IsReply, refused};
 ghost use Rattle.board_core.specs.Lazy.{is_passive, caught_up, IsLazy, IsCounted};
 ghost use Rattle.board_core.specs.Time.{now_of};
 ghost use Rattle.clockboard_c.specs.Kept.{seen};
@@ -141,25 +145,25 @@ fn count(board: &mut Board, cpu: u8, host: u64, access: Access, reply: &mut Repl
     // The call gives with the processors what joins the parts of a board.
     let _ = board.state.cpus();
     let later = board.state.count(&mut board.lag, host);
-    let now_ns = now_after(&board.state, &board.lag, later, board.now_ns);
-    board.now_ns = now_ns;
+    let now_ns = move_now(&mut board.now_ns, &board.state, &board.lag, later);
     let number = board.state.accesses();
     let value = board.state.take_passive(&board.lag, now_ns, access);
     reply.put_head(OK, number, now_ns, value_words(value));
 }
 
-/// The time of a board that lags, which is the one before unless a later count was counted.
+/// Moves the time of a board that lags, which is the one before unless a later count was counted.
 #[inline(always)]
-fn now_after(state: &BoardState, lag: &Lag, later: bool, before: u64) -> u64
+fn move_now(now_ns: &mut u64, state: &BoardState, lag: &Lag, later: bool) -> u64
     requires lazy { IsLazy state.now lag.now.host lag.now.horizon }
-    requires same { later ≡ false → before ≡ now_of (caught_up state.now lag.now) }
-    ensures { result ≡ now_of (caught_up state.now lag.now) }
+    requires same { later ≡ false → now_ns.old ≡ now_of (caught_up state.now lag.now) }
+    requires later { later ≡ true → state.now.host < lag.now.host }
+    ensures value { result ≡ now_of (caught_up state.now lag.now) }
+    ensures kept { now_ns.new ≡ result }
 {
     if later {
-        state.lagging_now(lag)
-    } else {
-        before
+        *now_ns = state.later_now(lag);
     }
+    *now_ns
 }
 
 /// The board's answer, in one place for all calls: so the board's code for an access is in it, and not a call away.
@@ -171,19 +175,30 @@ fn run(board: &mut Board, cpu: u8, host: u64, access: Access, reply: &mut ReplyW
     // The call gives with the processors what joins the parts of a board.
     let _ = board.state.cpus();
     let mut answered = Reply::empty();
-    let result = board
+    let taken = board
         .state
-        .answer_lagging(&mut board.lag, cpu, host, access, &mut answered);
-    match result {
-        Ok(()) => {
-            let kept = keeps_next(access, &answered.edges);
-            board.next.keep_where(kept);
-            let now_ns = board.state.lagging_now(&board.lag);
-            board.now_ns = now_ns;
-            reply.take_answer(&answered, now_ns);
-        }
-        Err(refusal) => reply.refuse(code_of(refusal)),
+        .take_lagging(&mut board.lag, cpu, host, access, &mut answered);
+    if !taken {
+        refuse(&board.state, cpu, host, access, reply);
+        return;
     }
+    let kept = keeps_next(access, &answered.edges);
+    board.next.keep_where(kept);
+    let now_ns = board.state.lagging_now(&board.lag);
+    board.now_ns = now_ns;
+    reply.take_answer(&answered, now_ns);
+}
+
+/// The code of an access that the board refuses.
+#[cold]
+#[inline(never)]
+fn refuse(state: &BoardState, cpu: u8, host: u64, access: Access, reply: &mut ReplyWords)
+    requires asked { IsTaken state.now cpu access }
+    requires refused { IsSome (refusal_of state.now cpu host access) }
+    ensures { (e : Refusal) → refusal_of state.now cpu host access ≡ Some e
+        → IsReply reply.old reply.new (refused (code_of e)) }
+{
+    reply.refuse(code_of(state.refusal(cpu, host, access)));
 }
 
 /// Whether the next edge is what it was: the access leaves the lines to go on as they would, and none changed.

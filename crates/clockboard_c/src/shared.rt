@@ -47,7 +47,7 @@ use pvclock_page::{page_words, reading, words_page};
 use tsc_scale::{ratio, tsc_by};
 
 /// What the first word of `RateWords` holds that a call has filled: 'CLKBRDS' and the digit of `ABI`.
-pub(crate) const RATES_SEAL: u64 = 0x3853_4452_424b_4c43;
+pub(crate) const RATES_SEAL: u64 = 0x3953_4452_424b_4c43;
 
 /// What no access changes of a board, `struct clockboard_rates` of shared.h.
 #[derive(Clone, Copy)]

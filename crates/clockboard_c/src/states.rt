@@ -246,7 +246,7 @@ pub extern "C" fn clockboard_upgrade(board: &mut Board, format: u8) -> u32
 
 /// Takes a board that doesn't lag to a format that is built, and not before its own.
 fn upgrade_board(board: &mut Board, format: u8)
-    requires up { board.old.lag.host ≡ 0 }
+    requires up { (seen board.old).state ≡ board.old.state }
     requires later { board.old.state.format ≤ format }
     requires built { format ≤ LAST_FORMAT }
     ensures { seen board.new ≡ record (seen board.old) {

@@ -1,6 +1,6 @@
-//! What a register holds, and the fields after a write to it.
+//! What a register holds, and a write to it.
 
-ghost use Rattle.std.specs.Prelude.{◌≡◌, ◌+◌, ◌*◌, ◌^◌, ◌<◌, ◌≤◌, IsTrue, slice_set};
+ghost use Rattle.std.specs.Prelude.{◌≡◌, ◌+◌, ◌*◌, ◌^◌, ◌<◌, ◌≤◌, IsTrue};
 ghost use Rattle.hpet_comparator.specs.Part.{part_written, is_register_width};
 ghost use Rattle.hpet_comparator.specs.Config.{config_written};
 ghost use Rattle.hpet_comparator.specs.Comparator.{comparator_written};
@@ -138,102 +138,53 @@ fn timer_comparator_written(parts: &HpetParts, k: u8, width: u8, high: bool, v: 
     timer.parts()
 }
 
-/// `list` with `x` at place `k`.
-fn with_timer(list: [TimerParts; 8], k: u8, x: TimerParts) -> [TimerParts; 8]
-    requires { k < 8 }
-    ensures { result ≡ slice_set list k x }
+/// Writes `v` to the configuration register of timer `k`.
+fn write_timer_config(parts: &mut HpetParts, k: u8, v: u64)
+    requires valid { IsHpet parts.old }
+    requires range { k < parts.old.timers }
+    ensures { parts.new ≡ timer_config_written k v parts.old }
 {
-    let mut list = list;
-    list[k as usize] = x;
-    list
-}
-
-/// `list` with `x` at place `k`.
-fn with_bit(list: [bool; 8], k: u8, x: bool) -> [bool; 8]
-    requires { k < 8 }
-    ensures { result ≡ slice_set list k x }
-{
-    let mut list = list;
-    list[k as usize] = x;
-    list
-}
-
-/// `list` with `x` at place `k`.
-fn with_word(list: [u64; 8], k: u8, x: u64) -> [u64; 8]
-    requires { k < 8 }
-    ensures { result ≡ slice_set list k x }
-{
-    let mut list = list;
-    list[k as usize] = x;
-    list
-}
-
-/// The fields after a write of `v` to the configuration register of timer `k`.
-fn timer_config_set(parts: HpetParts, k: u8, v: u64) -> HpetParts
-    requires valid { IsHpet parts }
-    requires range { k < parts.timers }
-    ensures { result ≡ timer_config_written k v parts }
-{
-    let timer = with_timer(parts.timer, k, timer_config_written(&parts, k, v));
-    let message_bit = if parts.messages {
-        with_bit(parts.message_bit, k, v / MESSAGE % 2 == 1)
-    } else {
-        parts.message_bit
-    };
-    HpetParts {
-        timer,
-        message_bit,
-        ..parts
+    parts.timer[k as usize] = timer_config_written(parts, k, v);
+    if parts.messages {
+        parts.message_bit[k as usize] = v / MESSAGE % 2 == 1;
     }
 }
 
-/// The fields after a write to a register.
-pub(crate) fn register_written(
-    parts: HpetParts,
+/// Writes `v` to a register. The fields change in their places: to move all would cost more than the write does.
+pub(crate) fn write_register(
+    parts: &mut HpetParts,
     register: Register,
     width: u8,
     high: bool,
     v: u64,
-) -> HpetParts
-    requires valid { IsHpet parts }
-    requires range { IsRegister parts.timers parts.messages register }
+)
+    requires valid { IsHpet parts.old }
+    requires range { IsRegister parts.old.timers parts.old.messages register }
     requires width { IsTrue (is_register_width width) }
     requires fits { v < 2 ^ (8 * width) }
-    ensures { result ≡ register_written register width high v parts }
+    ensures { parts.new ≡ register_written register width high v parts.old }
 {
     match register {
-        Register::Capabilities | Register::Reserved => parts,
-        Register::Configuration => HpetParts {
-            config: (write_part(parts.config as u64, width, high, v) % 4) as u8,
-            ..parts
-        },
-        Register::Status => HpetParts {
-            status: parts.status & !((write_part(0, width, high, v) % 0x100) as u8),
-            ..parts
-        },
-        Register::MainCounter => HpetParts {
-            counter: counter_written(parts.counter, width, high, v),
-            ..parts
-        },
-        Register::TimerConfig(k) => {
-            let v = write_part(timer_config(&parts, k), width, high, v);
-            timer_config_set(parts, k, v)
+        Register::Capabilities | Register::Reserved => {}
+        Register::Configuration => {
+            parts.config = (write_part(parts.config as u64, width, high, v) % 4) as u8;
         }
-        Register::TimerComparator(k) => HpetParts {
-            timer: with_timer(
-                parts.timer,
-                k,
-                timer_comparator_written(&parts, k, width, high, v),
-            ),
-            ..parts
-        },
-        Register::TimerMessage(k) => HpetParts {
-            message_word: with_word(
-                parts.message_word,
-                k,
-                write_part(parts.message_word[k as usize], width, high, v),
-            ),
-            ..parts
-        },
+        Register::Status => {
+            parts.status &= !((write_part(0, width, high, v) % 0x100) as u8);
+        }
+        Register::MainCounter => {
+            parts.counter = counter_written(parts.counter, width, high, v);
+        }
+        Register::TimerConfig(k) => {
+            let v = write_part(timer_config(parts, k), width, high, v);
+            write_timer_config(parts, k, v);
+        }
+        Register::TimerComparator(k) => {
+            parts.timer[k as usize] = timer_comparator_written(parts, k, width, high, v);
+        }
+        Register::TimerMessage(k) => {
+            let word = write_part(parts.message_word[k as usize], width, high, v);
+            parts.message_word[k as usize] = word;
+        }
     }
 }

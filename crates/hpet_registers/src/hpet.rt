@@ -149,7 +149,7 @@ impl Hpet {
                 self.parts.messages,
                 offset - offset % 8,
             );
-            self.parts = access::register_written(self.parts, register, width, offset % 8 == 4, v);
+            access::write_register(&mut self.parts, register, width, offset % 8 == 4, v);
             self.quiet = plan_of(&self.parts);
         }
     }

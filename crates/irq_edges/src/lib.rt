@@ -26,7 +26,7 @@ mod rises;
 
 pub use bursts::{BURST_PLACES, Burst, BurstList};
 pub use edges::{EDGE_PLACES, Edge, EdgeList};
-pub use lines::{LINE_NUMBERS, Lines, changes};
+pub use lines::{LINE_NUMBERS, Lines, changes, is_line};
 pub use rises::{emit, lines_at, next_rise};
 
 #[cfg(test)]

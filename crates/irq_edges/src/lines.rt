@@ -8,6 +8,14 @@ use crate::edges::{Edge, EdgeList};
 /// The numbers of the six lines, in rising order.
 pub const LINE_NUMBERS: [u8; 6] = [0, 8, 20, 21, 22, 23];
 
+/// Whether a number is that of one of the six lines.
+#[inline(always)]
+pub fn is_line(number: u8) -> bool
+    ensures { result ≡ is_line number }
+{
+    matches!(number, 0 | 8 | 20 | 21 | 22 | 23)
+}
+
 /// The levels of the six lines, in order of line numbers: true where a line is up.
 #[derive(Clone, Copy, Debug, Default, PartialEq, Eq)]
 #[repr(C)]

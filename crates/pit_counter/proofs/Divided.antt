@@ -32,10 +32,10 @@ use Rattle.std.proofs.lemmas.Bool.{and_parts, cond_both, eqb-true, ne_eqb}
 use Rattle.clk_units.proofs.Events.{CountsUp-mono}
 use Rattle.std.proofs.Math.Nat.{mod-lt, mod-eq-sub-div-mul, div-mul-le_self}
 use Rattle.pit_counter.specs.Mode.{mode_of, is_bcd, is_rate, is_square, is_periodic, has_strobe}
-use Rattle.pit_counter.specs.Count.{modulus, meant_count, lowered}
+use Rattle.pit_counter.specs.Count.{modulus, from_digits, number_in, meant_count, lowered}
 use Rattle.pit_counter.specs.Table.{affected, pulsed, pulsed_times, rises_in}
 use Rattle.pit_counter.specs.Parts.{IsCounter, flags_valid, ce_valid}
-use Rattle.pit_counter.specs.private.Stretch.{height, is_dividing, with_left}
+use Rattle.pit_counter.specs.private.Stretch.{height, is_dividing, DividesBy, with_left}
 use Rattle.pit_counter.specs.private.Taken.{HasTaken}
 use Rattle.pit_counter.specs.declared.mode.Mode.{Mode}
 use Rattle.pit_counter.specs.declared.rises.Rises.{Rises}
@@ -47,12 +47,30 @@ use Rattle.pit_counter.proofs.Keeps.{loaded_count-below, IsCounter-ce}
 use Rattle.pit_counter.proofs.Quiet.{rate_effect}
 use Rattle.pit_counter.proofs.Times.{pulsed_times-zero, pulsed_times-suc, CountsUp-rises_in}
 use Rattle.pit_counter.proofs.Joins.{pulsed_times-joined, HasTaken-joined}
-use Rattle.pit_counter.proofs.Reloaded.{Counting, Counting-from, ending, to_load, state_ending, rises_ending, first_ending, effect-rate, height-loaded, height-two, load_rate, meant_count-some, not_from, rate-from}
+use Rattle.pit_counter.proofs.Periods.{Counting, Counting-from, ending, to_load, state_ending, rises_ending, first_ending, effect-rate, height-loaded, height-two, load_rate, meant_count-some, not_from, rate-from}
 
 -- a count has 16 bits
 pub modulus-le : (bits : ℕ) → modulus bits ≤ 65536
 unfolding modulus
 modulus-le bits = cond_both (is_bcd bits) 10000 65536 (λ m. m ≤ 65536) (λ _. omega arith) (λ _. omega arith)
+
+-- and a count register too, so that the count that it means is in its range
+number_by : (bcd : Bool) (digits cr : ℕ) → cr < 65536 → cond bcd (digits % 10000) cr < cond {A = ℕ} bcd 10000 65536
+number_by true digits cr h = omega arith
+number_by false digits cr h = h
+
+number_in-lt : (bits cr : ℕ) → cr < 65536 → number_in bits cr < modulus bits
+unfolding number_in modulus
+number_in-lt bits cr h = number_by (is_bcd bits) (from_digits cr) cr h
+
+pub meant_count-le : (bits cr : ℕ) → cr < 65536 → meant_count bits cr ≤ modulus bits
+unfolding meant_count
+meant_count-le bits cr h =
+    let few = number_in-lt bits cr h in
+    let n : ℕ = number_in bits cr in
+    cond_both (eqb n 0) (modulus bits) (cond (eqb n 1 && is_periodic (mode_of bits)) 2 n) (λ x. x ≤ modulus bits) (λ _. omega arith)
+    (λ some. cond_both (eqb n 1 && is_periodic (mode_of bits)) 2 n (λ x. x ≤ modulus bits)
+    (λ one. omega (arith, few, eqb-true n 1 (and_parts _ _ one).0)) (λ _. omega (arith, few)))
 
 -- at first the whole height is left
 pub height-left : (c : CounterParts) → c.ce < modulus c.bits → c.ce ≡ (height c - 0) % modulus c.bits
@@ -156,6 +174,22 @@ count-later c n h below few some past =
     count-loaded c rest h few (mod-lt (n - height c) some)
     ∙ ap (λ (d : CounterParts). (pulsed_times rest d).ce) (sym (state_ending c (height c) whole (ending c h below few)))
     ∙ ap (λ (d : CounterParts). d.ce) (sym (ap (λ (k : ℕ). pulsed_times k c) all ∙ pulsed_times-joined c (height c + whole * period) rest))
+
+-- the period isn't 0
+pub DividesBy-some : (n : ℕ) (c : CounterParts) → DividesBy n c → 0 < n
+unfolding is_dividing
+DividesBy-some n c d =
+    let a = and_parts _ _ d.counts in
+    let b = and_parts _ _ a.0 in
+    let e = and_parts _ _ b.0 in
+    let f = and_parts _ _ e.0 in
+    let m = rate-from (mode_of c.bits) f.0 in
+    omega (arith, d.period, meant_count-some c.bits c.cr (ap is_periodic m))
+
+-- in binary
+pub modulus-binary : (bits : ℕ) → is_bcd bits ≡ false → modulus bits ≡ 65536
+unfolding modulus
+modulus-binary bits h = ap (λ (b : Bool). cond b 10000 65536) h
 
 -- ---- what pulses leave, and their rises
 

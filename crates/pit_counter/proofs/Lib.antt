@@ -3,7 +3,7 @@ pub mod Keeps
 pub mod Times
 pub mod Quiet
 pub mod Joins
-pub mod Reloaded
+pub mod Periods
 pub mod Divided
 pub mod Square
 pub mod Later

@@ -1,22 +1,22 @@
 -- Pulses that are planned.
-use Rattle.std.proofs.Common.{◌≡◌, ℕ, ◌+◌, ◌-◌, ◌*◌, ◌/◌, ◌%◌, ◌<◌, ◌≤◌, min, Bool, true, false, not, ◌&&◌, cond, eqb}
+use Rattle.std.proofs.Common.{◌≡◌, ℕ, ◌+◌, ◌-◌, ◌*◌, ◌/◌, ◌%◌, ◌<◌, ◌≤◌, min, Bool, true, false, not, ◌&&◌, ◌||◌, cond, eqb}
 use Rattle.std.proofs.Common.{refl, sym, ap, ◌∙◌, arith, inl, inr, subst}
-use Rattle.std.proofs.lemmas.Bool.{and_parts, cond_both, cases_lt, eqb-true, eqb-false, ne_eqb, eq-eqb}
-use Rattle.pit_counter.specs.Mode.{mode_of, is_bcd}
-use Rattle.pit_counter.specs.Count.{modulus}
+use Rattle.std.proofs.lemmas.Bool.{and_parts, cond_both, cases_lt, eqb-true, ne_eqb, eq-eqb}
+use Rattle.pit_counter.specs.Mode.{mode_of, is_bcd, is_rate}
+use Rattle.pit_counter.specs.Count.{modulus, meant_count}
 use Rattle.pit_counter.specs.Table.{effect_in, pulsed_times, rises_in}
 use Rattle.pit_counter.specs.Reading.{status_of, with_count_latched, with_status_latched, status_released, count_released, after_read}
-use Rattle.pit_counter.specs.private.Stretch.{step_of, is_still, forever, height, quiet_for, glided_count, glided, is_dividing, with_left}
-use Rattle.pit_counter.specs.private.Plan.{planned_for, plan_by, plan_of}
+use Rattle.pit_counter.specs.private.Stretch.{step_of, is_still, forever, height, quiet_for, glided_count, glided, is_dividing, is_rate_running, DividesBy, divides}
+use Rattle.pit_counter.specs.private.Plan.{planned_for, planned_period, plan_by, plan_of}
 use Rattle.pit_counter.specs.declared.mode.Mode.{Mode}
 use Rattle.pit_counter.specs.declared.mode.Mode.TheVariants.{TerminalCount, OneShot, RateGenerator, SquareWave, SoftwareStrobe, HardwareStrobe}
 use Rattle.pit_counter.specs.declared.table.Effect.{Effect}
 use Rattle.pit_counter.specs.declared.table.Effect.TheVariants.{Load, DownToHigh, DownToLow, DownByTwo, DownToStrobe, Stand}
 use Rattle.pit_counter.specs.declared.plan.Plan.{Plan}
 use Rattle.pit_counter.specs.declared.parts.CounterParts.{CounterParts}
-use Rattle.pit_counter.proofs.Divided.{modulus-le}
-use Rattle.pit_counter.proofs.Reloaded.{Counting, Counting-from, effect-rate, not_from, rate-from}
-use Rattle.pit_counter.proofs.Quiet.{next_effect, rate_effect, effect_in-glided, pulsed_times-glided, rises_in-glided, pulsed_times-still, rises_in-still}
+use Rattle.pit_counter.proofs.Divided.{modulus-le, meant_count-le}
+use Rattle.pit_counter.proofs.Periods.{Counting, Counting-from, effect-rate, not_from, rate-from}
+use Rattle.pit_counter.proofs.Quiet.{next_effect, rate_effect, square_effect, effect_in-glided, pulsed_times-glided, rises_in-glided, pulsed_times-still, rises_in-still}
 
 -- a count that doesn't pass 0
 glided_count-above : (bits ce down : ℕ) → ce < modulus bits → down ≤ ce → glided_count bits ce down ≡ ce - down
@@ -149,8 +149,8 @@ module _ (c : CounterParts) (n : ℕ) (below : c.ce < modulus c.bits) where
         ∙ ap (λ (k : ℕ). k - n) (sym (simply effect c few loud))
         ∙ ap (λ (b : Bool). cond b forever (min (quiet_for effect c) c.ce - 1) - n) (sym loud)
 
-    planned_later : record { quiet = planned_for effect c - n; step = step_of effect } ≡ plan_by (next_effect later) later
-    planned_later = ap (λ (k : ℕ). record { quiet = k; step = step_of effect }) (sym fewer) ∙ ap (λ (e : Effect). plan_by e later) (sym same_effect)
+    planned_later : record { quiet = planned_for effect c - n; period = planned_period effect c; step = step_of effect } ≡ plan_by (next_effect later) later
+    planned_later = ap (λ (k : ℕ). record { quiet = k; period = planned_period effect c; step = step_of effect }) (sym fewer) ∙ ap (λ (e : Effect). plan_by e later) (sym same_effect)
 
   either : {P : Type 0} → n ≤ planned_for effect c → (is_still effect c.out ≡ true → P)
       → (is_still effect c.out ≡ false → n ≤ min (quiet_for effect c) c.ce - 1 → P) → P
@@ -182,7 +182,7 @@ module _ (c : CounterParts) (n : ℕ) (below : c.ce < modulus c.bits) where
 
   -- .. and leave the rest of the plan
   pub plan_of-planned : ((plan_of c).step ≡ 0 → ⊥) → n ≤ (plan_of c).quiet
-      → record { quiet = (plan_of c).quiet - n; step = (plan_of c).step } ≡ plan_of (record c { ce = c.ce - (plan_of c).step * n })
+      → record (plan_of c) { quiet = (plan_of c).quiet - n } ≡ plan_of (record c { ce = c.ce - (plan_of c).step * n })
   unfolding plan_of
   plan_of-planned counts h = either h (λ still. absurd (counts (step-still effect c.out still))) (λ loud within. planned_later loud within)
 
@@ -233,7 +233,7 @@ plan_of-bare : (c : CounterParts) → plan_of (bare c) ≡ plan_of c
 unfolding plan_of
 plan_of-bare c =
     ap (λ (e : Effect). plan_by e (bare c)) (effect_in-bare (mode_of c.bits) c)
-    ∙ ap (λ (k : ℕ). record { quiet = k; step = step_of (next_effect c) }) (planned_for-bare (next_effect c) c)
+    ∙ ap (λ (k : ℕ). record { quiet = k; period = planned_period (next_effect c) c; step = step_of (next_effect c) }) (planned_for-bare (next_effect c) c)
 
 plan_of-same : (c d : CounterParts) → bare d ≡ bare c → plan_of d ≡ plan_of c
 plan_of-same c d e = sym (plan_of-bare d) ∙ ap plan_of e ∙ plan_of-bare c
@@ -252,47 +252,96 @@ unfolding with_status_latched
 plan_of-status_latched c = plan_of-same c (with_status_latched c)
     (cond_both c.status_latched c (record c { status_latched = true; latched_status = status_of c }) (λ d. bare d ≡ bare c) (λ _. refl) (λ _. refl))
 
--- ---- a counter that divides, by what is left of its period
+-- ---- a counter that divides
 
-not_one : (bits n : ℕ) → 0 < n → n ≤ modulus bits → eqb n 1 ≡ false → eqb (n % modulus bits) 1 ≡ false
-unfolding modulus
-not_one bits n = cond_both (is_bcd bits) 10000 65536 (λ m. 0 < n → n ≤ m → eqb n 1 ≡ false → eqb (n % m) 1 ≡ false)
-    (λ _ some few e. ne_eqb (n % 10000) 1 (λ one. omega (arith, eqb-false n 1 e)))
-    (λ _ some few e. ne_eqb (n % 65536) 1 (λ one. omega (arith, eqb-false n 1 e)))
-
-one-of : (bits n : ℕ) → n ≡ 1 → n % modulus bits ≡ 1
-unfolding modulus
-one-of bits n = cond_both (is_bcd bits) 10000 65536 (λ m. n ≡ 1 → n % m ≡ 1) (λ _ e. omega arith) (λ _ e. omega arith)
-
-dividing-counts : (c : CounterParts) → is_dividing c ≡ true → (mode_of c.bits ≡ RateGenerator) × Counting c
-unfolding is_dividing
-dividing-counts c h =
-    let a = and_parts _ _ h in
-    let b = and_parts _ _ a.0 in
+running-counts : (c : CounterParts) → is_rate_running c ≡ true → (mode_of c.bits ≡ RateGenerator) × Counting c
+running-counts c h =
+    let b = and_parts _ _ h in
     let d = and_parts _ _ b.0 in
     let e = and_parts _ _ d.0 in
     (rate-from (mode_of c.bits) e.0, Counting-from c e.1 d.1 (not_from c.trig b.1))
 
--- the last pulse of it loads
-pub plan_of-last : (c : CounterParts) (n : ℕ) → is_dividing c ≡ true → n ≡ 1 → record { quiet = n % modulus c.bits - 3; step = 0 } ≡ plan_of (with_left n c)
-unfolding plan_of quiet_for
-plan_of-last c n h one =
-    let k = dividing-counts c h in
-    let count = one-of c.bits n one in
-    let effect : next_effect (with_left n c) ≡ Load true =
-    effect-rate c (n % modulus c.bits) (not (eqb n 1)) k.1 k.0
-    ∙ ap (λ (b : Bool). rate_effect false true b (not (eqb n 1))) (eq-eqb (n % modulus c.bits) 1 count) in
-    let none : n % modulus c.bits - 3 ≡ min 0 (n % modulus c.bits) - 1 = omega (arith, count) in
-    ap (λ (q : ℕ). record { quiet = q; step = 0 }) none ∙ ap (λ (e : Effect). plan_by e (with_left n c)) (sym effect)
+running-effect : (c : CounterParts) (ends : Bool) → is_rate_running c ≡ true → eqb c.ce 1 ≡ ends → next_effect c ≡ rate_effect false true ends c.out
+running-effect c ends h e =
+    let k = running-counts c h in
+    effect-rate c c.ce c.out k.1 k.0 ∙ ap (λ (b : Bool). rate_effect false true b c.out) e
+
+plan_of-by : (c : CounterParts) (e : Effect) → next_effect c ≡ e → plan_by e c ≡ plan_of c
+unfolding plan_of
+plan_of-by c e h = ap (λ (x : Effect). plan_by x c) (sym h)
+
+-- the last pulse of a period loads
+pub plan_of-last : (c : CounterParts) → is_rate_running c ≡ true → c.ce ≡ 1 → record { quiet = c.ce - 3; period = 0; step = 0 } ≡ plan_of c
+unfolding quiet_for
+plan_of-last c h one =
+    let none : c.ce - 3 ≡ min 0 c.ce - 1 = omega (arith, one) in
+    let plan : record { quiet = c.ce - 3; period = 0; step = 0 } ≡ plan_by (Load true) c =
+    ap (λ (q : ℕ). record { quiet = q; period = 0; step = 0 }) none in
+    plan ∙ plan_of-by c (Load true) (running-effect c true h (eq-eqb c.ce 1 one))
 
 -- the pulses before count
-pub plan_of-left : (c : CounterParts) (n : ℕ) → is_dividing c ≡ true → 0 < n → n ≤ modulus c.bits → (n ≡ 1 → ⊥)
-    → record { quiet = n % modulus c.bits - 3; step = 1 } ≡ plan_of (with_left n c)
-unfolding plan_of quiet_for
-plan_of-left c n h some few other =
-    let k = dividing-counts c h in
-    let effect : next_effect (with_left n c) ≡ DownToLow =
-    effect-rate c (n % modulus c.bits) (not (eqb n 1)) k.1 k.0
-    ∙ ap (λ (b : Bool). rate_effect false true b (not (eqb n 1))) (not_one c.bits n some few (ne_eqb n 1 other)) in
-    let quiet : n % modulus c.bits - 3 ≡ min (height (with_left n c) - 2) (n % modulus c.bits) - 1 = omega (arith, low (with_left n c) 2) in
-    ap (λ (q : ℕ). record { quiet = q; step = 1 }) quiet ∙ ap (λ (e : Effect). plan_by e (with_left n c)) (sym effect)
+pub plan_of-running : (c : CounterParts) → is_rate_running c ≡ true → (c.ce ≡ 1 → ⊥)
+    → record { quiet = c.ce - 3; period = meant_count c.bits c.cr; step = 1 } ≡ plan_of c
+unfolding quiet_for
+plan_of-running c h other =
+    let quiet : c.ce - 3 ≡ min (height c - 2) c.ce - 1 = omega (arith, low c 2) in
+    let plan : record { quiet = c.ce - 3; period = meant_count c.bits c.cr; step = 1 } ≡ plan_by DownToLow c =
+    ap (λ (q : ℕ). record { quiet = q; period = meant_count c.bits c.cr; step = 1 }) quiet in
+    plan ∙ plan_of-by c DownToLow (running-effect c false h (ne_eqb c.ce 1 other))
+
+-- ---- where a period is planned the counter divides
+
+clash : (b : Bool) → b ≡ true → b ≡ false → ⊥
+clash b e f = cc
+
+neither : (a b : Bool) (x y z : Effect) → divides x ≡ false → divides y ≡ false → divides z ≡ false → divides (cond a x (cond b y z)) ≡ false
+neither true b x y z e f g = e
+neither false true x y z e f g = f
+neither false false x y z e f g = g
+
+square_never : (begins counts out odd at_zero at_two : Bool) → divides (square_effect begins counts out odd at_zero at_two) ≡ false
+square_never true counts out odd z t = refl
+square_never false false out odd z t = refl
+square_never false true false odd z true = refl
+square_never false true false odd z false = refl
+square_never false true true false z true = refl
+square_never false true true false z false = refl
+square_never false true true true true t = refl
+square_never false true true true false t = refl
+
+rate_divides : (full live trig gate ends out : Bool) → divides (rate_effect ((full && not live) || trig) (live && gate) ends out) ≡ true
+    → (gate && live && not trig && not ends) ≡ true
+rate_divides true true false true false out h = refl
+rate_divides false true false true false out h = refl
+rate_divides true true true gate ends out h = cc
+rate_divides true false trig gate ends out h = cc
+rate_divides true true false false ends out h = cc
+rate_divides true true false true true out h = cc
+rate_divides false live true gate ends out h = cc
+rate_divides false false false gate ends out h = cc
+rate_divides false true false false ends out h = cc
+rate_divides false true false true true out h = cc
+
+dividing-in : (m : Mode) (c : CounterParts) → divides (effect_in m c) ≡ true → (is_rate m && c.gate && c.live && not c.trig && not (eqb c.ce 1)) ≡ true
+unfolding effect_in
+dividing-in RateGenerator c h = rate_divides c.full c.live c.trig c.gate (eqb c.ce 1) c.out h
+dividing-in TerminalCount c h =
+    absurd (clash _ h (neither (c.null && c.full) (c.live && c.gate && not c.part_there) (Load c.out) DownToHigh (Stand c.out) refl refl refl))
+dividing-in OneShot c h = absurd (clash _ h (neither c.trig c.live (Load false) DownToHigh (Stand c.out) refl refl refl))
+dividing-in SquareWave c h =
+    absurd (clash _ h (square_never ((c.full && not c.live) || c.trig) (c.live && c.gate) c.out c.odd (eqb c.ce 0) (eqb c.ce 2)))
+dividing-in SoftwareStrobe c h = absurd (clash _ h (neither (c.null && c.full) (c.live && c.gate) (Load true) DownToStrobe (Stand true) refl refl refl))
+dividing-in HardwareStrobe c h = absurd (clash _ h (neither c.trig c.live (Load true) DownToStrobe (Stand true) refl refl refl))
+
+pub DividesBy-planned : (c : CounterParts) (plan : Plan) → plan ≡ plan_of c → c.cr < 65536 → (plan.period ≡ 0 → ⊥) → DividesBy plan.period c
+unfolding plan_of is_dividing
+DividesBy-planned c plan is few some = by_test (divides (next_effect c)) refl
+  where
+    period : plan.period ≡ planned_period (next_effect c) c
+    period = ap (λ (x : Plan). x.period) is
+
+    by_test : (b : Bool) → divides (next_effect c) ≡ b → DividesBy plan.period c
+    by_test true e =
+        let meant = period ∙ ap (λ (b : Bool). cond b (meant_count c.bits c.cr) 0) e in
+        record { counts = dividing-in (mode_of c.bits) c e; period = meant; short = omega (arith, meant, meant_count-le c.bits c.cr few) }
+    by_test false e = absurd (some (period ∙ ap (λ (b : Bool). cond b (meant_count c.bits c.cr) 0) e))

@@ -48,7 +48,7 @@ use Rattle.pit_counter.proofs.Times.{pulsed_times-zero, rises_in-zero, CountsUp-
 use Rattle.pit_counter.proofs.Joins.{pulsed_times-joined, rises_in-joined, HasTaken-joined}
 use Rattle.pit_counter.proofs.Quiet.{next_effect, square_effect, height-some, pulsed_times-glided, rises_in-glided}
 use Rattle.pit_counter.proofs.Divided.{small, height-left, unset}
-use Rattle.pit_counter.proofs.Reloaded.{Ending, height-loaded, Counting, Counting-from, Round, effect-square, one_more, both_same, not_from, meant_count-some, round_in_3, state_ending, rises_ending, first_ending}
+use Rattle.pit_counter.proofs.Periods.{Ending, height-loaded, Counting, Counting-from, Rising, effect-square, one_more, not_from, meant_count-some, state_ending, rises_ending, first_ending}
 
 -- ---- what is left of a half
 
@@ -155,6 +155,10 @@ pub half-some : (c : CounterParts) → Halving c → 0 < half_left c
 unfolding half_left
 half-some c s = cond_both (c.out && c.odd) (c.ce / 2 + 1) (height c / 2) (λ x. 0 < x) (λ _. omega arith)
     (λ _. let tall = height-even c s.even in omega (arith, tall.0, tall.1))
+
+both_same : (b : Bool) → (b && b) ≡ b
+both_same true = refl
+both_same false = refl
 
 -- the toggle at its end
 pub record Toggle (c : CounterParts) : Type 0 where
@@ -319,20 +323,13 @@ placed c x level odd s e =
 
 -- ---- up to the next rise
 
-round-loaded : (c : CounterParts) → Square c → meant_count c.bits c.cr ≤ modulus c.bits → Round (affected (Load true) c) (meant_count c.bits c.cr)
-round-loaded c s few =
-    let m = s.halving.mode in
-    round_in_3 (affected (Load true) c) (eqb (meant_count c.bits c.cr % 2) 1)
-    (record { periodic = ap is_periodic m; gate = s.gate; live = refl; out = refl; null = refl; trig = refl; armed = ap has_strobe m; ce = refl; odd = refl })
-    m (loaded_count-below c.bits c.cr) (meant_count-some c.bits c.cr (ap is_periodic m)) few refl
-
-pub ending-square : (c : CounterParts) → Square c → meant_count c.bits c.cr ≤ modulus c.bits → Ending c (to_rise c)
+rising-square : (c : CounterParts) → Halving c → c.gate ≡ true → meant_count c.bits c.cr ≤ modulus c.bits → Rising c (to_rise c)
 unfolding to_rise
-ending-square c s few = by_level c.out refl
+rising-square c s gate few = by_level c.out refl
   where
-    by_level : (o : Bool) → c.out ≡ o → Ending c (half_left c + cond o (meant_count c.bits c.cr / 2) 0)
+    by_level : (o : Bool) → c.out ≡ o → Rising c (half_left c + cond o (meant_count c.bits c.cr / 2) 0)
     by_level false o =
-        let t = toggle c s.halving in
+        let t = toggle c s in
         let n : ℕ = half_left c in
         let place : n + 0 ≡ n = omega arith in
         let before : n + 0 - 1 ≡ n - 1 = omega arith in
@@ -341,13 +338,12 @@ ending-square c s few = by_level c.out refl
           some = omega (arith, t.some);
           quiet = ap (rises_in c) before ∙ t.quiet;
           rise = ap (rises_in c) place ∙ t.rise ∙ ap (λ (b : Bool). cond (not b) 1 0) o;
-          later = round-loaded c s few;
         }
     by_level true o =
-        let t = toggle c s.halving in
+        let t = toggle c s in
         let d : CounterParts = affected (Load false) c in
-        let u = toggle d (Halving-loaded c false s.gate s.halving.mode) in
-        let low : half_left d ≡ meant_count c.bits c.cr / 2 = low-half c s.halving.mode few in
+        let u = toggle d (Halving-loaded c false gate s.mode) in
+        let low : half_left d ≡ meant_count c.bits c.cr / 2 = low-half c s.mode few in
         let n : ℕ = half_left c in
         let k : ℕ = meant_count c.bits c.cr / 2 in
         let here : pulsed_times n c ≡ d = t.state ∙ ap (λ (b : Bool). affected (Load (not b)) c) o in
@@ -360,8 +356,22 @@ ending-square c s few = by_level c.out refl
               ∙ omega (arith, none, ap (λ (x : CounterParts). rises_in x (k - 1)) here, ap (λ (x : ℕ). rises_in d (x - 1)) low, u.quiet);
           rise = rises_in-joined c n k
               ∙ omega (arith, none, ap (λ (x : CounterParts). rises_in x k) here, ap (λ (x : ℕ). rises_in d x) low, u.rise);
-          later = round-loaded c s few;
         }
+
+-- after a load a whole period is left
+to_rise-loaded : (c : CounterParts) → mode_of c.bits ≡ SquareWave → meant_count c.bits c.cr ≤ modulus c.bits
+    → to_rise (affected (Load true) c) ≡ meant_count c.bits c.cr
+unfolding to_rise
+to_rise-loaded c m few = omega (arith, high-half c m few)
+
+pub ending-square : (c : CounterParts) → Square c → meant_count c.bits c.cr ≤ modulus c.bits → Ending c (to_rise c)
+ending-square c s few =
+    let m = s.halving.mode in
+    let loaded : CounterParts = affected (Load true) c in
+    record {
+      first = rising-square c s.halving s.gate few;
+      later = subst (λ (n : ℕ). Rising loaded n) (to_rise-loaded c m few) (rising-square loaded (Halving-loaded c true s.gate m) s.gate few);
+    }
 
 -- ---- what pulses leave, and their rises
 
@@ -379,7 +389,7 @@ pub taken-low : (c : CounterParts) (n : ℕ) → Square c → meant_count c.bits
     → (to_rise c - n ≤ meant_count c.bits c.cr / 2)
     × HasTaken n c (pulsed_times (meant_count c.bits c.cr - (to_rise c - n)) (affected (Load true) c)) (record { count = 0; first = None })
 unfolding to_rise
-taken-low c n s few past h = by_level c.out refl h (ending-square c s few).quiet
+taken-low c n s few past h = by_level c.out refl h (ending-square c s few).first.quiet
   where
     by_level : (o : Bool) → c.out ≡ o → n < half_left c + cond o (meant_count c.bits c.cr / 2) 0
         → rises_in c (half_left c + cond o (meant_count c.bits c.cr / 2) 0 - 1) ≡ 0

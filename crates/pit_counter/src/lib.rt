@@ -18,6 +18,7 @@
 
 mod count;
 mod counter;
+mod division;
 mod halves;
 mod mode;
 mod parts;

@@ -2,7 +2,7 @@
 //! Operations", "Counter Latch Command" and "Read-Back Command".
 
 ghost use Rattle.std.specs.Prelude.{◌≡◌, ◌<◌, ◌/◌, ◌%◌, false, if◌then◌else◌, IfSome};
-ghost use Rattle.pit_counter.specs.Mode.{access_of};
+ghost use Rattle.pit_counter.specs.Mode.{access_of, is_bcd};
 ghost use Rattle.pit_counter.specs.Count.{modulus};
 ghost use Rattle.pit_counter.specs.Parts.{IsCounter};
 ghost use Rattle.pit_counter.specs.Table.{pulsed_times};
@@ -20,10 +20,11 @@ ghost use Rattle.pit_counter.specs.Reading.{
 };
 
 use crate::count::read_as;
+use crate::division::divided_count;
 use crate::mode::{Access, access_of, is_bcd};
 use crate::parts::CounterParts;
-use crate::plan::{Plan, planned_count};
-use crate::stretch::{divided_count, is_dividing, take_pulses};
+use crate::plan::{Plan, period_of, planned_count};
+use crate::stretch::take_pulses;
 
 /// The count as it reads now.
 #[tactic(auto, unfolding(crate::specs::Reading::count_of))]
@@ -207,20 +208,19 @@ fn turn(p: &mut CounterParts) -> bool
     high
 }
 
-/// The count after `n` pulses, where it comes by a sum or a division.
+/// The binary count after `n` pulses, where it comes by a sum or a division.
 #[inline(always)]
 fn count_later(p: &CounterParts, plan: &Plan, n: u64) -> Option<u16>
     requires below { p.now.ce < modulus p.now.bits }
+    requires binary { is_bcd p.now.bits ≡ false }
     requires planned { plan.now ≡ plan_of p.now }
     ensures { IfSome result (λ count. count ≡ (pulsed_times n p.now).ce) }
 {
     if n <= plan.quiet {
-        Some(planned_count(plan, p, n))
-    } else if is_dividing(p) {
-        Some(divided_count(p, n))
-    } else {
-        None
+        return Some(planned_count(plan, p, n));
     }
+    let period = period_of(plan, p)?;
+    Some(divided_count(p, period, n))
 }
 
 /// Reads a byte as after `n` more pulses, and takes none of them: no pulse changes what is latched,

@@ -1,10 +1,9 @@
-//! Many pulses at once: stretches that count and do nothing else, whole periods, and single pulses
-//! between them.
+//! Many pulses at once: stretches that count and do nothing else, and single pulses between them, up to
+//! where a counter counts in periods.
 
-ghost use Rattle.std.specs.Prelude.{◌≡◌, ◌*◌, ◌%◌, ◌<◌, ◌≤◌, true, not, if◌then◌else◌};
-ghost use Rattle.pit_counter.specs.Count.{modulus, meant_count};
+ghost use Rattle.std.specs.Prelude.{◌≡◌, ◌*◌, ◌%◌, ◌<◌, ◌≤◌, not, if◌then◌else◌};
+ghost use Rattle.pit_counter.specs.Count.{modulus};
 ghost use Rattle.pit_counter.specs.Parts.{IsCounter};
-ghost use Rattle.pit_counter.specs.Table.{pulsed_times};
 ghost use Rattle.pit_counter.specs.private.Stretch.{
   step_of,
   is_still,
@@ -12,17 +11,16 @@ ghost use Rattle.pit_counter.specs.private.Stretch.{
   quiet_for,
   glided_count,
   glided,
-  is_reloaded,
-  is_dividing,
 };
 ghost use Rattle.pit_counter.specs.private.Taken.{HasTaken, IsLeap};
 
-use crate::count::{is_odd_square, loaded_count, meant_count, modulus};
+use crate::count::{meant_count, modulus};
+use crate::division::{divide, is_dividing};
 use crate::halves::{is_halving, take_square};
-use crate::mode::{is_bcd, mode_of};
+use crate::mode::is_bcd;
 use crate::parts::CounterParts;
 use crate::rises::{NONE, Rises, joined, with_pulse};
-use crate::table::{Effect, has_risen, next_effect, pulsed};
+use crate::table::{Effect, affected, has_risen, next_effect};
 
 /// More pulses than are ever asked for.
 pub const FOREVER: u64 = u64::MAX;
@@ -150,30 +148,6 @@ struct Leap {
     rises: Rises,
 }
 
-/// The counter is as a load leaves it in modes 2 and 3, with GATE high: a period begins.
-#[tactic(auto, unfolding(crate::specs::private::Stretch::is_reloaded))]
-fn is_reloaded(p: &CounterParts) -> bool
-    ensures { result ≡ is_reloaded p.now }
-{
-    mode_of(p.bits).is_periodic()
-        && p.gate
-        && p.live
-        && p.out
-        && !p.null
-        && !p.trig
-        && !p.armed
-        && p.ce == loaded_count(p.bits, p.cr)
-        && same(is_odd_square(p.bits, p.cr), p.odd)
-}
-
-/// Mode 2 counts with GATE high, on to the load after a count of 1.
-#[tactic(auto, unfolding(crate::specs::private::Stretch::is_dividing))]
-pub fn is_dividing(p: &CounterParts) -> bool
-    ensures { result ≡ is_dividing p.now }
-{
-    mode_of(p.bits).is_rate() && p.gate && p.live && !p.trig && p.ce != 1
-}
-
 /// Whether two flags are the same.
 fn same(a: bool, b: bool) -> bool
     ensures { result ≡ (if a then b else not b) }
@@ -181,50 +155,28 @@ fn same(a: bool, b: bool) -> bool
     if a { b } else { !b }
 }
 
-/// Takes as many whole periods as there are in `n` pulses. Each ends where it began, with a rise at
-/// its last pulse.
-fn whole_periods(p: CounterParts, n: u64) -> Leap
-    requires one { meant_count p.bits p.cr ≤ n }
-    requires below { p.ce < modulus p.bits }
-    requires begins { is_reloaded p ≡ true }
-    ensures { IsLeap n p result }
-{
-    let period = meant_count(p.bits, p.cr) as u64;
-    let count = n / period;
-    Leap {
-        parts: p,
-        pulses: count * period,
-        rises: Rises {
-            count,
-            first: Some(period),
-        },
-    }
-}
-
-/// The count of a counter that divides after `n` pulses: what is left then of a period, be it the
-/// present one or a later one.
-#[inline(always)]
-pub fn divided_count(p: &CounterParts, n: u64) -> u16
-    requires below { p.now.ce < modulus p.now.bits }
-    requires counts { is_dividing p.now ≡ true }
-    ensures { result ≡ (pulsed_times n p.now).ce }
-{
-    let left = height(p);
-    if n < left {
-        return remainder(p.bits, left - n) as u16;
-    }
-    let period = meant_count(p.bits, p.cr) as u64;
-    remainder(p.bits, period - (n - left) % period) as u16
-}
-
-/// Takes as many of the next `n` pulses as go at once.
+/// Takes as many of the next `n` pulses as go at once: all of them where the counter counts in periods.
 fn next_leap(p: CounterParts, n: u64) -> Leap
     requires some { 0 < n }
-    requires below { p.ce < modulus p.bits }
+    requires valid { IsCounter p }
     ensures { IsLeap n p result }
 {
-    if meant_count(p.bits, p.cr) as u64 <= n && is_reloaded(&p) {
-        return whole_periods(p, n);
+    let mut parts = p;
+    if is_halving(&p) {
+        let rises = take_square(&mut parts, n);
+        return Leap {
+            parts,
+            pulses: n,
+            rises,
+        };
+    }
+    if is_dividing(&p) {
+        let rises = divide(&mut parts, meant_count(p.bits, p.cr), n);
+        return Leap {
+            parts,
+            pulses: n,
+            rises,
+        };
     }
     let effect = next_effect(&p);
     let quiet = quiet_for(effect, &p).min(n);
@@ -235,7 +187,7 @@ fn next_leap(p: CounterParts, n: u64) -> Leap
             rises: NONE,
         };
     }
-    let parts = pulsed(p);
+    let parts = affected(effect, p);
     let rose = has_risen(&p, &parts);
     Leap {
         parts,

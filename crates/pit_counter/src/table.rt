@@ -2,7 +2,7 @@
 
 ghost use Rattle.std.specs.Prelude.{◌≡◌, ◌&&◌, ◌||◌, not};
 ghost use Rattle.pit_counter.specs.Mode.{mode_of};
-ghost use Rattle.pit_counter.specs.Table.{effect_in, affected, pulsed, has_risen};
+ghost use Rattle.pit_counter.specs.Table.{effect_in, affected, has_risen};
 
 use crate::count::{is_odd_square, loaded_count, lowered};
 use crate::mode::{Mode, mode_of};
@@ -147,8 +147,8 @@ fn effect_in_hardware_strobe(p: &CounterParts) -> Effect
     }
 }
 
-/// The counter after an effect.
-fn affected(effect: Effect, p: CounterParts) -> CounterParts
+/// The counter after a pulse with this effect.
+pub fn affected(effect: Effect, p: CounterParts) -> CounterParts
     ensures { result ≡ affected effect p }
 {
     match effect {
@@ -218,12 +218,4 @@ pub fn has_risen(before: &CounterParts, after: &CounterParts) -> bool
     ensures { result ≡ has_risen before.now after.now }
 {
     !before.out && after.out
-}
-
-/// The counter after one CLK pulse.
-#[tactic(auto, unfolding(crate::specs::Table::pulsed))]
-pub fn pulsed(p: CounterParts) -> CounterParts
-    ensures { result ≡ pulsed p }
-{
-    affected(next_effect(&p), p)
 }

@@ -2,7 +2,7 @@
 //! "Mode Definitions".
 
 use super::*;
-use crate::table::{has_risen, pulsed};
+use crate::table::{affected, has_risen, next_effect};
 use std::process::Abort;
 
 /// OUT high and low.
@@ -332,7 +332,7 @@ fn pulses_one_by_one(parts: CounterParts, n: u64) -> (CounterParts, Rises) {
         first: None,
     };
     for done in 0..n {
-        let next = pulsed(parts);
+        let next = affected(next_effect(&parts), parts);
         if has_risen(&parts, &next) {
             rises.count = rises.count.wrapping_add(1);
             rises.first = rises.first.or(Some(done.wrapping_add(1)));

@@ -5,7 +5,7 @@ ghost use Rattle.race_phase.specs.Blocks.{edges_text, messages_text, block_of};
 ghost use Rattle.race_phase.specs.declared.records.Answer.TheVariants.{Acted};
 ghost use Rattle.race_phase.specs.private.Told.{answer_with};
 
-use crate::deliveries::{Deliveries, edge_lines, message_lines};
+use crate::deliveries::{Deliveries, counted_edge_lines, edge_lines, message_lines};
 use crate::told::Told;
 use board_core::Reply;
 use clk_units::NoMemory;
@@ -26,8 +26,8 @@ pub(crate) fn event_lines(
     message_lines(&reply.bursts, deliveries, out)
 }
 
-/// Appends the block of an access: its edges, its messages, and its line, which `counted` prints where it is given. After an
-/// `Err` the text begins as it was.
+/// Appends the block of an access: its edges, its messages, and its line. Where `counted` is given it prints the edges and the
+/// line. After an `Err` the text begins as it was.
 #[inline(always)]
 #[tactic(auto, unfolding(crate::specs::Blocks::block_of))]
 pub fn access_block(
@@ -41,11 +41,32 @@ pub fn access_block(
         (out.new.items ≡ out.old.items ++ block_of deliveries.now line (Acted reply.now)) }
     ensures err { OnErr result (StartsWith out.new.items out.old.items) }
 {
-    event_lines(reply, deliveries, out)?;
     match counted {
-        Some(lines) => lines.board_line(line, reply, out),
-        None => board_line(line, reply, out),
+        Some(lines) => counted_block(line, reply, deliveries, lines, out),
+        None => {
+            event_lines(reply, deliveries, out)?;
+            board_line(line, reply, out)
+        }
     }
+}
+
+/// The same where `lines` prints the edges and the line.
+#[inline(always)]
+#[tactic(auto, unfolding(crate::specs::Blocks::block_of))]
+fn counted_block(
+    line: u64,
+    reply: &Reply,
+    deliveries: &Deliveries,
+    lines: &mut CountedLines,
+    out: &mut Vec<u8>,
+) -> Result<(), NoMemory>
+    ensures ok { OnOk result
+        (out.new.items ≡ out.old.items ++ block_of deliveries.now line (Acted reply.now)) }
+    ensures err { OnErr result (StartsWith out.new.items out.old.items) }
+{
+    counted_edge_lines(reply.edges.as_slice(), deliveries, lines, out)?;
+    message_lines(&reply.bursts, deliveries, out)?;
+    lines.board_line(line, reply, out)
 }
 
 /// Appends the block of a record that was answered so; the reply of an access is this.

@@ -10,6 +10,9 @@ use Rattle.std.proofs.Common.{
   ◌^◌,
   ◌<◌,
   ◌≤◌,
+  Bool,
+  true,
+  false,
   List,
   [],
   ◌∷◌,
@@ -35,25 +38,13 @@ use Rattle.std.proofs.Common.{
 }
 use Rattle.std.proofs.Math.Seq.{take-set-lt, take-append-add}
 use Rattle.std.proofs.lemmas.Fmt.{decimal_digit, decimal_step}
-use Rattle.std.proofs.lemmas.List.{
-  take_at,
-  drop_at,
-  set_at,
-  get_or_at,
-  get_or-take,
-  take-set-le,
-  take-take,
-  take-append-drop,
-  take-append-le,
-  drop-append-le,
-  drop-take,
-  append-nil,
-}
+use Rattle.std.proofs.lemmas.List.{take_at, drop_at, set_at, get_or_at, get_or-take, take-take, take-append-drop, take-append-le, drop-append-le, drop-take, append-nil}
 use Rattle.board_types.specs.declared.reply.Value.{Value}
 use Rattle.reply_text.specs.Words.{spaced}
 use Rattle.pvclock_page.specs.declared.page.ClockReply.{ClockReply}
 use Rattle.pvclock_page.specs.declared.page.ClockReply.TheVariants.{Off as ClockOff, On as ClockOn}
 use Rattle.std.specs.Prelude.{codes}
+use Rattle.std.specs.Bool.{OnTrue, OnFalse}
 use Rattle.reply_text.specs.Text.{clock_text, value_text, value_words}
 use Rattle.reply_text.specs.private.Front.{IsFront}
 use Rattle.reply_text.specs.private.Readings.{reading_text}
@@ -140,69 +131,106 @@ length_by_last n x f e = ap length e ∙ length-append f (x ∷ [])
 length_by_two : (n x y : ℕ) (f : List ℕ) → decimal n ≡ f ++ x ∷ y ∷ [] → length (decimal n) ≡ length f + 2
 length_by_two n x y f e = ap length e ∙ length-append f (x ∷ y ∷ [])
 
--- the line counts up where its last digit isn't 9
-pub line_counted : (line number start end : ℕ) (text : List ℕ) → IsFront line number start end text → length text ≡ 96
-    → line < 2 ^ 64
-    → (get_or text 19 0 ≡ 48 + line % 10)
-    × (get_or text 19 0 ≢ 57 → line + 1 < 2 ^ 64 → IsFront (line + 1) number start end (set text 19 (get_or text 19 0 + 1)))
-line_counted line number start end text front room fits =
-    let last = last_digit line fits in
-    let f : List ℕ = last.0 in
-    let digits : decimal line ≡ f ++ (48 + line % 10) ∷ [] = last.1 in
-    let long : length (decimal line) ≡ length f + 1 = length_by_last line (48 + line % 10) f digits in
-    let start_is = front.start_is in
-    let end_is = front.end_is in
-    let before : length (take start text) ≡ start = length-take-le start text (omega arith) in
-    let byte = byte_at (take start text) f (32 ∷ decimal number) text (48 + line % 10) 19 end
-    (front.written ∙ ap (λ (ds : List ℕ). take start text ++ (ds ++ 32 ∷ decimal number)) digits) (omega arith) (omega arith) in
-    let is : get_or text 19 0 ≡ 48 + line % 10 = byte.0 in (
-      is,
-      λ low fits'.
-          let next : decimal (line + 1) ≡ f ++ (49 + line % 10) ∷ [] = last.2 (omega arith) fits' in
-          let long' : length (decimal (line + 1)) ≡ length f + 1 = length_by_last (line + 1) (49 + line % 10) f next in
-          let up : get_or text 19 0 + 1 ≡ 49 + line % 10 = omega arith in
-          let text' : List ℕ = set text 19 (get_or text 19 0 + 1) in
-          record {
-            start_is = omega arith;
-            end_is = end_is;
-            short = front.short;
-            written = byte.1 (get_or text 19 0 + 1)
-                ∙ ap (λ (x : ℕ). take start text ++ ((f ++ x ∷ []) ++ 32 ∷ decimal number)) up
-                ∙ ap (λ (ds : List ℕ). take start text ++ (ds ++ 32 ∷ decimal number)) (sym next)
-                ∙ ap (λ (p : List ℕ). p ++ (decimal (line + 1) ++ 32 ∷ decimal number))
-                (sym (take-set-le start text 19 (get_or text 19 0 + 1) (omega arith)));
-          },
+-- a number in a text that ends in a 9 after another digit counts up by its last two
+counted_over : (n n' at end : ℕ) (pre post text : List ℕ) → take end text ≡ pre ++ (decimal n ++ post)
+    → length pre + length (decimal n) ≡ at + 2 → at + 1 < end → n' < 2 ^ 64 → n + 1 ≡ n' → 10 ≤ n → n % 10 ≡ 9
+    → get_or text at 0 ≢ 57
+    → (take end (set (set text (at + 1) 48) at (get_or text at 0 + 1)) ≡ pre ++ (decimal n' ++ post))
+    × (length (decimal n') ≡ length (decimal n))
+counted_over n n' at end pre post text is place within fits next least nine low =
+    let two = last_two n least (omega arith) nine in
+    let f : List ℕ = two.0 in
+    let tens : ℕ = n / 10 % 10 in
+    let around : List ℕ → List ℕ = λ (ds : List ℕ). pre ++ (ds ++ post) in
+    let digits : decimal n ≡ f ++ (48 + tens) ∷ 57 ∷ [] = two.1 in
+    let long : length (decimal n) ≡ length f + 2 = length_by_two n (48 + tens) 57 f digits in
+    let bytes = two_at pre f post text (48 + tens) 57 at end (is ∙ ap around digits) (omega arith) within in
+    let digit : get_or text at 0 ≡ 48 + tens = bytes.0 in
+    let next' : decimal n' ≡ f ++ (49 + tens) ∷ 48 ∷ [] = ap decimal (sym next) ∙ two.2 (omega arith) (omega arith) in
+    let y : get_or text at 0 + 1 ≡ 49 + tens = omega arith in (
+      bytes.1 (get_or text at 0 + 1) 48 ∙ ap (λ (x : ℕ). around (f ++ x ∷ 48 ∷ [])) y ∙ ap around (sym next'),
+      length_by_two n' (49 + tens) 48 f next' ∙ sym long,
     )
 
--- .. and by its last two where it ends in a 9 after another digit
-line_carried : (line number start end : ℕ) (text : List ℕ) → IsFront line number start end text → length text ≡ 96
-    → line + 1 < 2 ^ 64 → 10 ≤ line → line % 10 ≡ 9
-    → get_or text 18 0 ≢ 57
-    → IsFront (line + 1) number start end (set (set text 19 48) 18 (get_or text 18 0 + 1))
-line_carried line number start end text front room fits least nine low =
-    let last = last_two line least (omega arith) nine in
-    let f : List ℕ = last.0 in
-    let tens : ℕ = line / 10 % 10 in
-    let digits : decimal line ≡ f ++ (48 + tens) ∷ 57 ∷ [] = last.1 in
-    let long : length (decimal line) ≡ length f + 2 = length_by_two line (48 + tens) 57 f digits in
+-- .. and another by its last one
+counted_up : (n n' last end : ℕ) (pre post text : List ℕ) → take end text ≡ pre ++ (decimal n ++ post)
+    → length pre + length (decimal n) ≡ last + 1 → last < end → n' < 2 ^ 64 → n + 1 ≡ n'
+    → (get_or text last 0 ≡ 48 + n % 10)
+    × (get_or text last 0 ≢ 57 → (take end (set text last (get_or text last 0 + 1)) ≡ pre ++ (decimal n' ++ post))
+    × (length (decimal n') ≡ length (decimal n)))
+counted_up n n' last end pre post text is place within fits next =
+    let one = last_digit n (omega arith) in
+    let f : List ℕ = one.0 in
+    let around : List ℕ → List ℕ = λ (ds : List ℕ). pre ++ (ds ++ post) in
+    let digits : decimal n ≡ f ++ (48 + n % 10) ∷ [] = one.1 in
+    let long : length (decimal n) ≡ length f + 1 = length_by_last n (48 + n % 10) f digits in
+    let byte = byte_at pre f post text (48 + n % 10) last end (is ∙ ap around digits) (omega arith) within in
+    let digit : get_or text last 0 ≡ 48 + n % 10 = byte.0 in (
+      digit,
+      λ low.
+          let next' : decimal n' ≡ f ++ (49 + n % 10) ∷ [] = ap decimal (sym next) ∙ one.2 (omega arith) (omega arith) in
+          let y : get_or text last 0 + 1 ≡ 49 + n % 10 = omega arith in (
+            byte.1 (get_or text last 0 + 1) ∙ ap (λ (x : ℕ). around (f ++ x ∷ [])) y ∙ ap around (sym next'),
+            length_by_last n' (49 + n % 10) f next' ∙ sym long,
+          ),
+    )
+
+-- .. so each by one of the two
+counted : (n n' last end : ℕ) (pre post text new : List ℕ) → take end text ≡ pre ++ (decimal n ++ post)
+    → length pre + length (decimal n) ≡ last + 1 → last < end → n' < 2 ^ 64 → n + 1 ≡ n'
+    → (get_or text last 0 ≢ 57 → new ≡ set text last (get_or text last 0 + 1))
+    → (get_or text last 0 ≡ 57 → (10 ≤ n) × (get_or text (last - 1) 0 ≢ 57)
+    × (new ≡ set (set text last 48) (last - 1) (get_or text (last - 1) 0 + 1)))
+    → (take end new ≡ pre ++ (decimal n' ++ post)) × (length (decimal n') ≡ length (decimal n))
+counted n n' last end pre post text new is place within fits next up over =
+    let by_one = counted_up n n' last end pre post text is place within fits next in
+    let digit : get_or text last 0 ≡ 48 + n % 10 = by_one.0 in
+    elim (eq-zero-or-pos (57 - get_or text last 0)) [
+      | inr low ↦
+          let other : get_or text last 0 ≢ 57 = omega arith in
+          let after = by_one.1 other in (ap (take end) (up other) ∙ after.0, after.1)
+      | inl none ↦
+          let nine : get_or text last 0 ≡ 57 = omega arith in
+          let carried = over nine in
+          let least : 10 ≤ n = carried.0 in
+          let two = last_two n least (omega arith) (omega arith) in
+          let long : length (decimal n) ≡ length two.0 + 2 = length_by_two n (48 + n / 10 % 10) 57 two.0 two.1 in
+          let last_is : last ≡ (last - 1) + 1 = omega arith in
+          let after = counted_over n n' (last - 1) end pre post text is (omega arith) (omega arith) fits next least (omega arith) carried.1 in (
+            ap (take end) carried.2
+                ∙ ap (λ (k : ℕ). take end (set (set text k 48) (last - 1) (get_or text (last - 1) 0 + 1))) last_is
+                ∙ after.0,
+            after.1,
+          )
+    ]
+
+-- what is before the words of a text
+front_part : (k m end : ℕ) (text new rest : List ℕ) → take end new ≡ take m text ++ rest → k ≤ m → m ≤ end → m ≤ length text
+    → take k new ≡ take k text
+front_part k m end text new rest is le more within =
+    sym (take-take k end new (omega arith)) ∙ ap (take k) is
+    ∙ take-append-le k (take m text) rest (omega (arith, length-take-le m text within)) ∙ take-take k m text le
+
+-- the line counts up
+pub line_counts : (line line' number start end : ℕ) (text new : List ℕ) → IsFront line number start end text → length text ≡ 96
+    → line' < 2 ^ 64 → line + 1 ≡ line'
+    → (get_or text 19 0 ≢ 57 → new ≡ set text 19 (get_or text 19 0 + 1))
+    → (get_or text 19 0 ≡ 57 → (10 ≤ line) × (get_or text 18 0 ≢ 57)
+    × (new ≡ set (set text 19 48) 18 (get_or text 18 0 + 1)))
+    → IsFront line' number start end new
+line_counts line line' number start end text new front room fits next up over =
     let start_is = front.start_is in
     let end_is = front.end_is in
     let before : length (take start text) ≡ start = length-take-le start text (omega arith) in
-    let bytes = two_at (take start text) f (32 ∷ decimal number) text (48 + tens) 57 18 end
-    (front.written ∙ ap (λ (ds : List ℕ). take start text ++ (ds ++ 32 ∷ decimal number)) digits) (omega arith) (omega arith) in
-    let is : get_or text 18 0 ≡ 48 + tens = bytes.0 in
-    let next : decimal (line + 1) ≡ f ++ (49 + tens) ∷ 48 ∷ [] = last.2 (omega arith) fits in
-    let long' : length (decimal (line + 1)) ≡ length f + 2 = length_by_two (line + 1) (49 + tens) 48 f next in
-    let up : get_or text 18 0 + 1 ≡ 49 + tens = omega arith in
+    let after = counted line line' 19 end (take start text) (32 ∷ decimal number) text new front.written
+    (omega arith) (omega arith) fits next up over in
+    let same : take start new ≡ take start text =
+    front_part start start end text new (decimal line' ++ 32 ∷ decimal number) after.0 (omega arith) (omega arith) (omega arith) in
     record {
-      start_is = omega arith;
+      start_is = omega (arith, after.1);
       end_is = end_is;
       short = front.short;
-      written = bytes.1 (get_or text 18 0 + 1) 48
-          ∙ ap (λ (x : ℕ). take start text ++ ((f ++ x ∷ 48 ∷ []) ++ 32 ∷ decimal number)) up
-          ∙ ap (λ (ds : List ℕ). take start text ++ (ds ++ 32 ∷ decimal number)) (sym next)
-          ∙ ap (λ (p : List ℕ). p ++ (decimal (line + 1) ++ 32 ∷ decimal number))
-          (sym (take-set-le start (set text 19 48) 18 (get_or text 18 0 + 1) (omega arith) ∙ take-set-le start text 19 48 (omega arith)));
+      written = after.0 ∙ ap (λ (p : List ℕ). p ++ (decimal line' ++ 32 ∷ decimal number)) (sym same);
     }
 
 -- the number after what is before it
@@ -217,115 +245,45 @@ length_before line number start end text front room =
     let before : length (take start text) ≡ start = length-take-le start text (omega arith) in
     omega (arith, length-append (take start text) (decimal line ++ 32 ∷ []), length-append (decimal line) (32 ∷ []))
 
--- the number counts up where its last digit isn't 9
-pub number_counted : (line number start end : ℕ) (text : List ℕ) → IsFront line number start end text → length text ≡ 96
-    → number < 2 ^ 64
-    → (get_or text (end - 1) 0 ≡ 48 + number % 10)
-    × (get_or text (end - 1) 0 ≢ 57 → number + 1 < 2 ^ 64
-    → IsFront line (number + 1) start end (set text (end - 1) (get_or text (end - 1) 0 + 1)))
-number_counted line number start end text front room fits =
-    let last = last_digit number fits in
-    let f : List ℕ = last.0 in
-    let digits : decimal number ≡ f ++ (48 + number % 10) ∷ [] = last.1 in
-    let long : length (decimal number) ≡ length f + 1 = length_by_last number (48 + number % 10) f digits in
+-- the number counts up
+pub number_counts : (line number number' start end : ℕ) (text new : List ℕ) → IsFront line number start end text → length text ≡ 96
+    → number' < 2 ^ 64 → number + 1 ≡ number'
+    → (get_or text (end - 1) 0 ≢ 57 → new ≡ set text (end - 1) (get_or text (end - 1) 0 + 1))
+    → (get_or text (end - 1) 0 ≡ 57 → (10 ≤ number) × (get_or text (end - 1 - 1) 0 ≢ 57)
+    × (new ≡ set (set text (end - 1) 48) (end - 1 - 1) (get_or text (end - 1 - 1) 0 + 1)))
+    → IsFront line number' start end new
+number_counts line number number' start end text new front room fits next up over =
     let start_is = front.start_is in
     let end_is = front.end_is in
     let pre : List ℕ = take start text ++ (decimal line ++ 32 ∷ []) in
     let before : length pre ≡ 21 = length_before line number start end text front room in
-    let at : ℕ = end - 1 in
     let whole : (ds : List ℕ) → take start text ++ (decimal line ++ 32 ∷ ds) ≡ pre ++ (ds ++ []) = λ (ds : List ℕ).
     apart (take start text) (decimal line) ds ∙ ap (λ (t : List ℕ). pre ++ t) (sym (append-nil ds)) in
-    let byte = byte_at pre f [] text (48 + number % 10) at end
-    (front.written ∙ ap (λ (ds : List ℕ). take start text ++ (decimal line ++ 32 ∷ ds)) digits
-    ∙ whole (f ++ (48 + number % 10) ∷ [])) (omega arith) (omega arith) in
-    let is : get_or text at 0 ≡ 48 + number % 10 = byte.0 in (
-      is,
-      λ low fits'.
-          let next : decimal (number + 1) ≡ f ++ (49 + number % 10) ∷ [] = last.2 (omega arith) fits' in
-          let long' : length (decimal (number + 1)) ≡ length f + 1 = length_by_last (number + 1) (49 + number % 10) f next in
-          let up : get_or text at 0 + 1 ≡ 49 + number % 10 = omega arith in
-          record {
-            start_is = start_is;
-            end_is = omega arith;
-            short = front.short;
-            written = byte.1 (get_or text at 0 + 1)
-                ∙ ap (λ (x : ℕ). pre ++ ((f ++ x ∷ []) ++ [])) up
-                ∙ ap (λ (ds : List ℕ). pre ++ (ds ++ [])) (sym next)
-                ∙ sym (whole (decimal (number + 1)))
-                ∙ ap (λ (p : List ℕ). p ++ (decimal line ++ 32 ∷ decimal (number + 1)))
-                (sym (take-set-le start text at (get_or text at 0 + 1) (omega arith)));
-          },
-    )
-
--- .. and by its last two
-number_carried : (line number start end : ℕ) (text : List ℕ) → IsFront line number start end text → length text ≡ 96
-    → number + 1 < 2 ^ 64 → 10 ≤ number → number % 10 ≡ 9
-    → get_or text (end - 1 - 1) 0 ≢ 57
-    → IsFront line (number + 1) start end (set (set text (end - 1) 48) (end - 1 - 1) (get_or text (end - 1 - 1) 0 + 1))
-number_carried line number start end text front room fits least nine low =
-    let last = last_two number least (omega arith) nine in
-    let f : List ℕ = last.0 in
-    let tens : ℕ = number / 10 % 10 in
-    let digits : decimal number ≡ f ++ (48 + tens) ∷ 57 ∷ [] = last.1 in
-    let long : length (decimal number) ≡ length f + 2 = length_by_two number (48 + tens) 57 f digits in
-    let start_is = front.start_is in
-    let end_is = front.end_is in
-    let pre : List ℕ = take start text ++ (decimal line ++ 32 ∷ []) in
-    let before : length pre ≡ 21 = length_before line number start end text front room in
-    let at : ℕ = end - 1 - 1 in
-    let place : end - 1 ≡ at + 1 = omega arith in
-    let whole : (ds : List ℕ) → take start text ++ (decimal line ++ 32 ∷ ds) ≡ pre ++ (ds ++ []) = λ (ds : List ℕ).
-    apart (take start text) (decimal line) ds ∙ ap (λ (t : List ℕ). pre ++ t) (sym (append-nil ds)) in
-    let bytes = two_at pre f [] text (48 + tens) 57 at end
-    (front.written ∙ ap (λ (ds : List ℕ). take start text ++ (decimal line ++ 32 ∷ ds)) digits
-    ∙ whole (f ++ (48 + tens) ∷ 57 ∷ [])) (omega arith) (omega arith) in
-    let is : get_or text at 0 ≡ 48 + tens = bytes.0 in
-    let next : decimal (number + 1) ≡ f ++ (49 + tens) ∷ 48 ∷ [] = last.2 (omega arith) fits in
-    let long' : length (decimal (number + 1)) ≡ length f + 2 = length_by_two (number + 1) (49 + tens) 48 f next in
-    let up : get_or text at 0 + 1 ≡ 49 + tens = omega arith in
+    let after = counted number number' (end - 1) end pre [] text new (front.written ∙ whole (decimal number))
+    (omega arith) (omega arith) fits next up over in
+    let written : take end new ≡ take start text ++ (decimal line ++ 32 ∷ decimal number') =
+    after.0 ∙ sym (whole (decimal number')) in
+    let same : take start new ≡ take start text =
+    front_part start start end text new (decimal line ++ 32 ∷ decimal number') written (omega arith) (omega arith) (omega arith) in
     record {
       start_is = start_is;
-      end_is = omega arith;
+      end_is = omega (arith, after.1);
       short = front.short;
-      written = ap (λ (k : ℕ). take end (set (set text k 48) at (get_or text at 0 + 1))) place
-          ∙ bytes.1 (get_or text at 0 + 1) 48
-          ∙ ap (λ (x : ℕ). pre ++ ((f ++ x ∷ 48 ∷ []) ++ [])) up
-          ∙ ap (λ (ds : List ℕ). pre ++ (ds ++ [])) (sym next)
-          ∙ sym (whole (decimal (number + 1)))
-          ∙ ap (λ (p : List ℕ). p ++ (decimal line ++ 32 ∷ decimal (number + 1)))
-          (sym (take-set-le start (set text (end - 1) 48) at (get_or text at 0 + 1) (omega arith)
-          ∙ take-set-le start text (end - 1) 48 (omega arith)));
+      written = written ∙ ap (λ (p : List ℕ). p ++ (decimal line ++ 32 ∷ decimal number')) (sym same);
     }
 
--- each is one more by its last digit
-pub line_up : (line line' number start end : ℕ) (text new : List ℕ) → IsFront line number start end text → length text ≡ 96
-    → line' < 2 ^ 64 → line + 1 ≡ line' → get_or text 19 0 ≢ 57 → new ≡ set text 19 (get_or text 19 0 + 1)
-    → IsFront line' number start end new
-line_up line line' number start end text new front room fits next digit is =
-    rw (← next, is) ((line_counted line number start end text front room (omega arith)).1 digit (omega arith))
-
-pub number_up : (line number number' start end : ℕ) (text new : List ℕ) → IsFront line number start end text → length text ≡ 96
-    → number' < 2 ^ 64 → number + 1 ≡ number' → get_or text (end - 1) 0 ≢ 57 → new ≡ set text (end - 1) (get_or text (end - 1) 0 + 1)
-    → IsFront line number' start end new
-number_up line number number' start end text new front room fits next digit is =
-    rw (← next, is) ((number_counted line number start end text front room (omega arith)).1 digit (omega arith))
-
--- .. or by its last two
-pub line_over : (line line' number start end : ℕ) (text new : List ℕ) → IsFront line number start end text → length text ≡ 96
-    → line' < 2 ^ 64 → line + 1 ≡ line' → 10 ≤ line → get_or text 19 0 ≡ 57 → get_or text 18 0 ≢ 57
-    → new ≡ set (set text 19 48) 18 (get_or text 18 0 + 1)
-    → IsFront line' number start end new
-line_over line line' number start end text new front room fits next least nine low is =
-    let digit : get_or text 19 0 ≡ 48 + line % 10 = (line_counted line number start end text front room (omega arith)).0 in
-    rw (← next, is) (line_carried line number start end text front room (omega arith) least (omega arith) low)
-
-pub number_over : (line number number' start end : ℕ) (text new : List ℕ) → IsFront line number start end text → length text ≡ 96
-    → number' < 2 ^ 64 → number + 1 ≡ number' → 10 ≤ number → get_or text (end - 1) 0 ≡ 57 → get_or text (end - 1 - 1) 0 ≢ 57
-    → new ≡ set (set text (end - 1) 48) (end - 1 - 1) (get_or text (end - 1 - 1) 0 + 1)
-    → IsFront line number' start end new
-number_over line number number' start end text new front room fits next least nine low is =
-    let digit : get_or text (end - 1) 0 ≡ 48 + number % 10 = (number_counted line number start end text front room (omega arith)).0 in
-    rw (← next, is) (number_carried line number start end text front room (omega arith) least (omega arith) low)
+-- .. or stays
+pub number_counts_or_stays : (b : Bool) (line number number' now start end : ℕ) (text new : List ℕ) → IsFront line number start end text
+    → length text ≡ 96 → number' < 2 ^ 64 → OnTrue b (number + 1 ≡ number') → OnTrue b (now ≡ number')
+    → OnTrue b (get_or text (end - 1) 0 ≢ 57 → new ≡ set text (end - 1) (get_or text (end - 1) 0 + 1))
+    → OnTrue b (get_or text (end - 1) 0 ≡ 57 → (10 ≤ number) × (get_or text (end - 1 - 1) 0 ≢ 57)
+    × (new ≡ set (set text (end - 1) 48) (end - 1 - 1) (get_or text (end - 1 - 1) 0 + 1)))
+    → OnFalse b ((now ≡ number) × (new ≡ text))
+    → IsFront line now start end new
+number_counts_or_stays true line number number' now start end text new front room fits next is up over still =
+    rw is (number_counts line number number' start end text new front room fits next up over)
+number_counts_or_stays false line number number' now start end text new front room fits next is up over still =
+    rw (still.0, still.1) front
 
 -- another line in front of the number
 pub line_written : (line line' number start end r : ℕ) (text new : List ℕ) → IsFront line number start end text

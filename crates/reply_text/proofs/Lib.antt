@@ -3,3 +3,4 @@ pub mod Numbers
 pub mod Ups
 mod Rows
 pub mod Fronts
+pub mod EdgeFronts

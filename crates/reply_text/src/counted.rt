@@ -11,21 +11,26 @@ ghost use Rattle.std.specs.Prelude.{
   set,
   length,
   take,
+  IsTrue,
   OnOk,
   OnErr,
+  OnSome,
   MatchOption,
   vec_len,
   vec_capacity,
 };
 ghost use Rattle.std.specs.Bool.{OnTrue, OnFalse};
 ghost use Rattle.reply_text.specs.Words.{spaced};
-ghost use Rattle.reply_text.specs.Text.{value_text, value_words, clock_text};
+ghost use Rattle.reply_text.specs.Text.{value_text, value_words, clock_text, edge_text};
 
 use crate::clock::put_clock;
+use crate::edges::EdgeFront;
 use crate::forward::{DIGITS, ROOM, append_line, put_byte, put_hex, put_number};
 use crate::replies::value_line;
 use board_types::{Reply, Value};
 use clk_units::NoMemory;
+use edge_hooks::Delivery;
+use irq_edges::Edge;
 use itoa::write_digits;
 use pvclock_page::ClockReply;
 use std::marker::Model;
@@ -40,6 +45,8 @@ pub struct CountedLines {
     text: [u8; ROOM],
     start: usize,
     end: usize,
+    /// .. and that of the last edge's line.
+    edges: EdgeFront,
 }
 
 impl Model for CountedLines {
@@ -66,6 +73,7 @@ impl CountedLines {
             text,
             start: DIGITS - 1,
             end: DIGITS + 2,
+            edges: EdgeFront::new(),
         }
     }
 
@@ -81,7 +89,7 @@ impl CountedLines {
         ensures full { OnErr result (vec_capacity out.old
             < vec_len out.old + length (value_text line reply.now.number reply.now.value)) }
     {
-        if self.counts_to(line, reply.number) {
+        if self.both_count_to(line, reply.number) {
             return self.append_value(&reply.value, out);
         }
         self.line_apart(line, reply, out)
@@ -117,56 +125,41 @@ impl CountedLines {
         append_line(&text, self.start, end, out)
     }
 
+    /// The line of an edge, as `edge_line` has it. The numbers of the record and the access stay.
+    #[inline(always)]
+    pub fn edge_line(
+        &mut self,
+        edge: &Edge,
+        to: Option<Delivery>,
+        out: &mut Vec<u8>,
+    ) -> Result<(), NoMemory>
+        requires { OnSome to (IsTrue edge.now.up) }
+        ensures same { self.new ≡ self.old }
+        ensures ok { OnOk result (out.new.items ≡ out.old.items ++ edge_text edge.now to) }
+        ensures err { OnErr result (out.new.items ≡ out.old.items) }
+        ensures full { OnErr result (vec_capacity out.old
+            < vec_len out.old + length (edge_text edge.now to)) }
+    {
+        self.edges.line(edge, to, out)
+    }
+
     /// The line of the record is this now, most likely one more than the last.
     #[inline(always)]
     fn go_to_line(&mut self, line: u64)
         ensures { self.new ≡ (line, self.old.1) }
     {
-        if !self.line_counts_to(line) {
+        if !counts_to(&mut self.line, line, &mut self.text, DIGITS - 1) {
             self.write_line(line);
         }
     }
 
     /// Whether each number is one more than the last, and changes only its last digit or two; then they are these now.
     #[inline(always)]
-    fn counts_to(&mut self, line: u64, number: u64) -> bool
+    fn both_count_to(&mut self, line: u64, number: u64) -> bool
         ensures { OnTrue result (self.new ≡ (line, number)) }
     {
-        self.line_counts_to(line) && self.number_counts_to(number)
-    }
-
-    /// The same of the line of the record.
-    #[inline(always)]
-    fn line_counts_to(&mut self, line: u64) -> bool
-        ensures counts { OnTrue result (self.new ≡ (line, self.old.1)) }
-        ensures still { OnFalse result (self.new ≡ self.old) }
-    {
-        if counts_up(self.line, line, &mut self.text, DIGITS - 1) {
-            self.line = line;
-            return true;
-        }
-        if carries(self.line, line, &mut self.text, DIGITS - 1) {
-            self.line = line;
-            return true;
-        }
-        false
-    }
-
-    /// .. and of the number of the access.
-    #[inline(always)]
-    fn number_counts_to(&mut self, number: u64) -> bool
-        ensures counts { OnTrue result (self.new ≡ (self.old.0, number)) }
-        ensures still { OnFalse result (self.new ≡ self.old) }
-    {
-        if counts_up(self.number, number, &mut self.text, self.end - 1) {
-            self.number = number;
-            return true;
-        }
-        if carries(self.number, number, &mut self.text, self.end - 1) {
-            self.number = number;
-            return true;
-        }
-        false
+        counts_to(&mut self.line, line, &mut self.text, DIGITS - 1)
+            && counts_to(&mut self.number, number, &mut self.text, self.end - 1)
     }
 
     /// The numbers are these now, whatever they were.
@@ -206,40 +199,51 @@ impl CountedLines {
     }
 }
 
-/// Whether a number is one more than another whose last digit, at a place of a text, isn't a 9; then it is one more, too.
+/// Whether a number is one more than another, whose last digit is at a place of a text, and changes only that digit or two;
+/// then the other is this number now, and so are its digits.
 #[inline(always)]
-fn counts_up(before: u64, n: u64, text: &mut [u8; ROOM], last: usize) -> bool
-    requires { last < ROOM }
-    ensures counts { OnTrue result (before + 1 ≡ n) }
-    ensures digit { OnTrue result (slice_index text.old last ≢ 57) }
-    ensures up { OnTrue result (text.new ≡ set text.old last (slice_index text.old last + 1)) }
-    ensures still { OnFalse result (text.new ≡ text.old) }
+fn counts_to(before: &mut u64, n: u64, text: &mut [u8; ROOM], last: usize) -> bool
+    requires some { 0 < last }
+    requires within { last < ROOM }
+    ensures counts { OnTrue result (before.old + 1 ≡ n) }
+    ensures number { OnTrue result (before.new ≡ n) }
+    ensures up { OnTrue result (slice_index text.old last ≢ 57
+        → text.new ≡ set text.old last (slice_index text.old last + 1)) }
+    ensures over { OnTrue result (slice_index text.old last ≡ 57
+        → (10 ≤ before.old) × (slice_index text.old (last - 1) ≢ 57) × (text.new
+        ≡ set (set text.old last 48) (last - 1) (slice_index text.old (last - 1) + 1))) }
+    ensures still { OnFalse result ((before.new ≡ before.old) × (text.new ≡ text.old)) }
+    ensures room { length text.new ≡ ROOM }
 {
-    if n <= before || n - before != 1 || text[last] >= b'9' {
+    if n.saturating_sub(*before) != 1 {
         return false;
     }
-    text[last] += 1;
+    if text[last] < b'9' {
+        text[last] += 1;
+    } else if !carries(*before, text, last) {
+        return false;
+    }
+    *before = n;
     true
 }
 
-/// Whether a number is one more than another that ends in a 9 after a digit that isn't one; then it is one more, too.
+/// Whether a number ends in a 9 after another digit; then that is one more, and the last a 0.
 #[inline(always)]
-fn carries(before: u64, n: u64, text: &mut [u8; ROOM], last: usize) -> bool
+fn carries(n: u64, text: &mut [u8; ROOM], last: usize) -> bool
     requires some { 0 < last }
     requires within { last < ROOM }
-    ensures counts { OnTrue result (before + 1 ≡ n) }
-    ensures long { OnTrue result (10 ≤ before) }
+    ensures long { OnTrue result (10 ≤ n) }
     ensures nine { OnTrue result (slice_index text.old last ≡ 57) }
     ensures low { OnTrue result (slice_index text.old (last - 1) ≢ 57) }
     ensures up { OnTrue result (text.new
         ≡ set (set text.old last 48) (last - 1) (slice_index text.old (last - 1) + 1)) }
     ensures still { OnFalse result (text.new ≡ text.old) }
 {
-    if n <= before || n - before != 1 || before < 10 {
+    if n < 10 || text[last] != b'9' {
         return false;
     }
     let tens = text[last - 1];
-    if text[last] != b'9' || tens >= b'9' {
+    if tens >= b'9' {
         return false;
     }
     text[last] = b'0';

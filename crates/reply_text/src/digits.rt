@@ -38,7 +38,7 @@ static DECIMALS: [u8; 200] = *b"0001020304050607080910111213141516171819\
 8081828384858687888990919293949596979899";
 
 /// From this number on the last eight digits are written apart from those before.
-const EIGHT_DIGITS: u64 = 100_000_000;
+pub(crate) const EIGHT_DIGITS: u64 = 100_000_000;
 
 /// Writes the digits of a number so that they end at `end`, and returns where they start. The last eight of a long number
 /// are written without a test for each pair.
@@ -58,12 +58,13 @@ pub(crate) fn write_number(n: u64, buf: &mut [u8], end: usize) -> usize
 
 /// Writes eight digits of a number so that they end at `end`, with zeros before it, and returns where they start.
 #[inline(always)]
-fn write_eight(n: u64, buf: &mut [u8], end: usize) -> usize
+pub(crate) fn write_eight(n: u64, buf: &mut [u8], end: usize) -> usize
     requires small { n < 100000000 }
     requires room { 8 ≤ end }
     requires within { end ≤ length buf.old }
     ensures start { result + 8 ≡ end }
     ensures written { drop result buf.new ≡ eight_text n ++ drop end buf.old }
+    ensures before { take result buf.new ≡ take result buf.old }
 {
     let low = n % 10_000;
     let high = n / 10_000;
@@ -81,6 +82,7 @@ fn write_two(n: u64, buf: &mut [u8], end: usize) -> usize
     requires within { end ≤ length buf.old }
     ensures start { result + 2 ≡ end }
     ensures written { drop result buf.new ≡ (48 + n / 10) ∷ (48 + n % 10) ∷ drop end buf.old }
+    ensures before { take result buf.new ≡ take result buf.old }
 {
     let pair = 2 * n as usize;
     let start = end - 2;

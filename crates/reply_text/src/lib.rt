@@ -16,6 +16,7 @@
 mod clock;
 mod counted;
 mod digits;
+mod edges;
 mod ends;
 mod forward;
 mod replies;
@@ -25,8 +26,9 @@ mod tail;
 
 pub use clock::{clock_line, hv_line, page_line};
 pub use counted::CountedLines;
+pub use edges::edge_line;
 pub use ends::{Reason, Refused, final_line, refused_line};
-pub use replies::{board_line, edge_line, msg_line, value_line};
+pub use replies::{board_line, msg_line, value_line};
 pub use saved::{move_line, save_line, state_line};
 pub use soak::soak_line;
 

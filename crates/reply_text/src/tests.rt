@@ -147,6 +147,41 @@ fn counted_clock_lines_are_whole_lines(rt: HostRuntime) -> Result<(), Fail> {
     Ok(())
 }
 
+/// The lines of edges whose first digits stay, change, are few or fall are those that are written whole.
+#[test]
+fn counted_edges_are_whole_lines(rt: HostRuntime) -> Result<(), Fail> {
+    let mut out = Vec::new(rt.alloc());
+    let mut wanted = Vec::new(rt.alloc());
+    let mut lines = CountedLines::new();
+    let to = Delivery {
+        cpu: 15,
+        vector: 0x30,
+    };
+    for (at, line) in [
+        (5u64, 0u8),
+        (99_999_999, 0),
+        (100_000_000, 8),
+        (199_999_999, 8),
+        (200_000_000, 20),
+        (123_456_789_012, 0),
+        (123_456_789_013, 23),
+        (123_400_000_001, 100),
+        (7, 0),
+        (18_446_744_073_699_999_999, 0),
+        (18_446_744_073_700_000_000, 0),
+        (u64::MAX, 100),
+        (0, 0),
+    ] {
+        for (up, to) in [(true, None), (true, Some(to)), (false, None)] {
+            let edge = Edge { at, line, up };
+            lines.edge_line(&edge, to, &mut out)?;
+            edge_line(&edge, to, &mut wanted)?;
+        }
+    }
+    assert_eq!(rt; out.as_slice(), wanted.as_slice());
+    Ok(())
+}
+
 /// Processors, lines and vectors of one, two and three digits.
 #[test]
 fn edges_of_each_length(rt: HostRuntime) -> Result<(), Fail> {

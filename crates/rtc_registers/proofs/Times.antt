@@ -300,7 +300,7 @@ is_some-match n r valid matched match =
     ∙ ap (ltb 0) (sym (alarms_in-is n r valid))
 
 -- the divider moves on where nothing else is replaced
-moved-quiet : (c : DividerParts) (r : RtcParts) → 14 ≤ length r.bytes → record r { d = c.d; cycle = c.cycle } ≡ moved c (time_of r) (register_c r) r
+pub moved-quiet : (c : DividerParts) (r : RtcParts) → 14 ≤ length r.bytes → record r { d = c.d; cycle = c.cycle } ≡ moved c (time_of r) (register_c r) r
 unfolding moved
 moved-quiet c r h = ap (λ (bs : List ℕ). let p : RtcParts =
     record { index = r.index; bytes = bs; d = c.d; cycle = c.cycle } in p) (sym (same-bytes r.bytes h))
@@ -331,7 +331,7 @@ ticked-flags n r valid ticks no_update =
     let no_alarm : alarms_in r n ≡ 0 = alarms_in-no_update n r valid no_update in
     rw (no_alarm, no_update, lt-ltb 0 (ticks_in (divider_of r) n) ticks, or-true (pf_of r), or-false (af_of r), or-false (uf_of r)) refl
 
-moved-flag : (c : DividerParts) (r : RtcParts) → 14 ≤ length r.bytes
+pub moved-flag : (c : DividerParts) (r : RtcParts) → 14 ≤ length r.bytes
     → record (flagged r) { d = c.d; cycle = c.cycle } ≡ moved c (time_of r) (flags_byte true (af_of r) (uf_of r)) r
 unfolding moved flagged
 moved-flag c r h = ap (λ (bs : List ℕ). let p : RtcParts =

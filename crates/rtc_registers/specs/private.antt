@@ -1,3 +1,4 @@
 -- What only proofs and bodies need.
+pub mod Plan
 pub mod Stretch
 pub mod Taken

@@ -19,6 +19,7 @@
 mod access;
 mod events;
 mod parts;
+mod plan;
 mod registers;
 mod rtc;
 mod stretch;

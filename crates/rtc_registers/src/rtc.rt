@@ -12,8 +12,9 @@ ghost use Rattle.rtc_registers.specs.Registers.{uf_of, pie_of, aie_of, uie_of};
 
 use crate::events::RtcEvents;
 use crate::parts::{self, RtcField, RtcParts};
+use crate::plan::plan_of;
 use crate::registers::{self, ALARM, PERIODIC, UPDATE_ENDED};
-use crate::{access, stretch};
+use crate::{access, plan, stretch};
 use rtc_calendar::TimeBytes;
 use std::marker::Model;
 
@@ -22,6 +23,8 @@ use std::marker::Model;
 #[derive(Clone, Copy, Debug, PartialEq, Eq)]
 pub struct Rtc {
     parts: RtcParts,
+    /// The plan of these parts: so many pulses move the divider's count alone.
+    quiet: u16,
 }
 
 impl Model for Rtc {
@@ -29,13 +32,17 @@ impl Model for Rtc {
 
     ghost Value = { RtcParts };
 
-    ghost use Rattle.rtc_registers.specs.Parts.{IsRtc};
+    ghost use Rattle.std.specs.Prelude.{ℕ};
+    ghost use Rattle.std.proofs.Common.{ap, sym};
+    ghost use Rattle.rtc_registers.specs.private.Plan.{plan_of, IsPlanned};
 
     ghost view = { λ c. c.parts };
 
-    ghost invariant = { λ c. IsRtc c.parts };
+    ghost invariant = { λ c. IsPlanned c.parts c.quiet };
 
-    ghost inverse = { λ p. record { parts = p } };
+    ghost inverse = { λ p. record { parts = p; quiet = plan_of p } };
+
+    ghost inverse_ok = { λ c is. ap (λ (quiet : ℕ). record { parts = c.parts; quiet = quiet }) (sym is.planned) };
 }
 
 impl Rtc {
@@ -44,9 +51,7 @@ impl Rtc {
     pub fn power_on(bytes: TimeBytes) -> Rtc
         ensures { result ≡ rtc_at_power_on bytes }
     {
-        Rtc {
-            parts: access::rtc_at_power_on(bytes),
-        }
+        planned(access::rtc_at_power_on(bytes))
     }
 
     /// All fields, as a saved state keeps them.
@@ -63,7 +68,7 @@ impl Rtc {
         ensures value { IfSome result (λ c. c ≡ parts) }
     {
         match parts::first_fault(&parts) {
-            None => Some(Rtc { parts }),
+            None => Some(planned(parts)),
             Some(_) => None,
         }
     }
@@ -103,7 +108,7 @@ impl Rtc {
             → time_of (rtc_pulsed_times n self.old) ≡ time_of self.old }
     {
         let byte = access::rtc_read(&self.parts);
-        access::leave_read(&mut self.parts);
+        plan::leave_read(&mut self.parts, &mut self.quiet);
         byte
     }
 
@@ -114,6 +119,7 @@ impl Rtc {
         ensures { self.new ≡ rtc_written byte self.old }
     {
         access::write(&mut self.parts, byte);
+        self.quiet = plan_of(&self.parts);
     }
 
     /// Lets `n` pulses of the crystal pass, which set flags and change the time bytes, and returns their events.
@@ -130,7 +136,7 @@ impl Rtc {
         // while SET is 1 the time stays
         ensures still { set_of self.old ≡ true → time_of self.new ≡ time_of self.old }
     {
-        stretch::pulses(&mut self.parts, n)
+        stretch::pulses(&mut self.parts, &mut self.quiet, n)
     }
 
     /// Which of `n` pulses of the crystal, counted from 1, brings the first periodic event, without taking them.
@@ -146,7 +152,7 @@ impl Rtc {
     pub fn pass(&mut self, n: u64)
         ensures { self.new ≡ rtc_pulsed_times n self.old }
     {
-        stretch::pass(&mut self.parts, n);
+        stretch::pass(&mut self.parts, &mut self.quiet, n);
     }
 
     /// Whether `n` pulses of the crystal bring no periodic event and no update, as far as that shows without taking them.
@@ -155,7 +161,7 @@ impl Rtc {
         ensures ticks { result ≡ true → ticks_in (divider_of self.now) n ≡ 0 }
         ensures updates { result ≡ true → updates_in (divider_of self.now) n ≡ 0 }
     {
-        stretch::is_quiet(&self.parts, n)
+        plan::is_quiet(&self.parts, self.quiet, n)
     }
 
     /// IRQF of register C, which is the level of the interrupt line: a flag is up whose interrupt register B
@@ -212,6 +218,17 @@ impl Rtc {
     pub fn set_pf(&mut self)
         ensures { self.new ≡ flagged self.old }
     {
-        access::set_pf(&mut self.parts);
+        plan::set_pf(&mut self.parts, &mut self.quiet);
+    }
+}
+
+/// The clock with these fields.
+fn planned(parts: RtcParts) -> Rtc
+    requires { IsRtc parts }
+    ensures { result ≡ parts }
+{
+    Rtc {
+        parts,
+        quiet: plan_of(&parts),
     }
 }

@@ -1,34 +1,26 @@
 //! Many pulses at once: the divider after them, and what their events change.
 
-ghost use Rattle.std.specs.Prelude.{◌≡◌, ℕ, ◌+◌, ◌-◌, ◌*◌, ◌^◌, ◌<◌, ◌||◌, ◌⊎◌, Some, true};
+ghost use Rattle.std.specs.Prelude.{◌≡◌, ℕ, ◌+◌, ◌-◌, ◌*◌, ◌^◌, ◌<◌, ◌||◌, Some};
 ghost use Rattle.std.specs.Option.{is_some};
 ghost use Rattle.clk_units.specs.Events.{IsFirst};
 ghost use Rattle.rtc_calendar.specs.Updates.{updated_times};
 ghost use Rattle.rtc_calendar.specs.Alarms.{matches_in};
-ghost use Rattle.rtc_cycle.specs.Divider.{ticks_in, updates_in};
 ghost use Rattle.rtc_registers.specs.Access.{flagged};
 ghost use Rattle.rtc_registers.specs.Parts.{IsRtc};
 ghost use Rattle.rtc_registers.specs.Pulses.{moved, rtc_pulsed_times};
-ghost use Rattle.rtc_registers.specs.Registers.{flags_byte, divider_of, pf_of};
+ghost use Rattle.rtc_registers.specs.Registers.{flags_byte};
 ghost use Rattle.rtc_registers.specs.Registers.{form_of, time_of, alarm_of};
+ghost use Rattle.rtc_registers.specs.private.Plan.{plan_of};
 ghost use Rattle.rtc_registers.specs.private.Taken.{HasTaken};
 ghost use Rattle.rtc_registers.specs.private.Stretch.{second_apart, flags_left};
 
 use crate::events::RtcEvents;
 use crate::parts::RtcParts;
+use crate::plan::{is_quiet, plan_of, take_planned};
 use crate::registers::{self, ALARM, PERIODIC, REGISTER_C, UPDATE_ENDED};
 use crate::{RTC_HZ, access};
 use rtc_calendar::{TimeBytes, let_pass};
-use rtc_cycle::{CycleEvents, Divider, DividerParts};
-
-/// The divider counts on within its second, and nothing else changes.
-#[inline(always)]
-fn count_on(r: &mut RtcParts, n: u64)
-    requires { r.old.d + n < 32768 }
-    ensures { r.new ≡ record r.old { d = r.old.d + n } }
-{
-    r.d += n as u16;
-}
+use rtc_cycle::{CycleEvents, DividerParts};
 
 /// The divider moves on, and nothing else changes.
 fn move_divider(r: &mut RtcParts, divider: DividerParts)
@@ -60,9 +52,9 @@ fn flags_after(r: &RtcParts, cycle: &CycleEvents, alarm: bool) -> u8
     )
 }
 
-/// The divider moves on, and events change time bytes and register C; the first update that the alarm matches,
+/// The divider moves on, and updates change time bytes and register C; the first update that the alarm matches,
 /// updates being counted from 1.
-fn take_events(r: &mut RtcParts, divider: DividerParts, cycle: &CycleEvents) -> Option<u64>
+fn take_updates(r: &mut RtcParts, divider: DividerParts, cycle: &CycleEvents) -> Option<u64>
     ensures matched { IsFirst (matches_in (form_of r.old) (alarm_of r.old) (time_of r.old))
         cycle.now.updates result }
     ensures state { r.new
@@ -75,6 +67,35 @@ fn take_events(r: &mut RtcParts, divider: DividerParts, cycle: &CycleEvents) -> 
     let flags = flags_after(r, cycle, elapsed.matched.is_some());
     replace(r, divider, elapsed.bytes, flags);
     elapsed.matched
+}
+
+/// The divider moves on, and a tick sets PF.
+fn take_ticks(r: &mut RtcParts, divider: DividerParts)
+    ensures { r.new ≡ record (flagged r.old) { d = divider.d; cycle = divider.cycle } }
+{
+    access::set_pf(r);
+    move_divider(r, divider);
+}
+
+/// The divider moves on, and events change time bytes and register C; the first update that the alarm matches. Where no
+/// event falls the divider alone moves, and where no update does it and PF.
+fn take_events(r: &mut RtcParts, divider: DividerParts, cycle: &CycleEvents) -> Option<u64>
+    requires { IsRtc r.old }
+    ensures matched { IsFirst (matches_in (form_of r.old) (alarm_of r.old) (time_of r.old))
+        cycle.now.updates result }
+    ensures state { r.new
+        ≡ moved divider (updated_times (form_of r.old) cycle.now.updates (time_of r.old))
+        (flags_left cycle.now (is_some result) r.old) r.old }
+{
+    if cycle.updates > 0 {
+        return take_updates(r, divider, cycle);
+    }
+    if cycle.ticks > 0 {
+        take_ticks(r, divider);
+    } else {
+        move_divider(r, divider);
+    }
+    None
 }
 
 /// The pulse of the update numbered `matched`, where the first one comes at pulse `first`.
@@ -92,113 +113,72 @@ fn update_pulse(first: Option<u64>, matched: Option<u64>) -> Option<u64>
     }
 }
 
-/// The divider moves on, and a tick sets PF.
-fn take_ticks(r: &mut RtcParts, divider: DividerParts)
-    ensures { r.new ≡ record (flagged r.old) { d = divider.d; cycle = divider.cycle } }
-{
-    access::set_pf(r);
-    move_divider(r, divider);
-}
-
-/// Lets `n` pulses pass. Where no event falls the divider alone moves, and where no update does it and PF.
+/// Lets `n` pulses pass.
 // Inlined, it leaves out what its caller doesn't ask of the events.
 #[inline(always)]
 fn take_pulses(r: &mut RtcParts, n: u64) -> RtcEvents
     requires { IsRtc r.old }
     ensures { HasTaken n r.old r.new result }
 {
-    if n == 0 {
-        return RtcEvents::NONE;
-    }
     let mut divider = registers::divider(r);
     let cycle = divider.pulses(n);
-    if cycle.updates > 0 {
-        let matched = take_events(r, divider.parts(), &cycle);
-        return RtcEvents {
-            cycle,
-            first_alarm: update_pulse(cycle.first_update, matched),
-        };
-    }
-    if cycle.ticks > 0 {
-        take_ticks(r, divider.parts());
-    } else {
-        move_divider(r, divider.parts());
-    }
+    let matched = take_events(r, divider.parts(), &cycle);
     RtcEvents {
         cycle,
-        first_alarm: None,
+        first_alarm: update_pulse(cycle.first_update, matched),
     }
 }
 
-/// Whether `n` pulses bring no periodic event and no update, as far as that shows at once.
-#[inline(always)]
-pub(crate) fn is_quiet(r: &RtcParts, n: u64) -> bool
-    requires { IsRtc r.now }
-    ensures ticks { result ≡ true → ticks_in (divider_of r.now) n ≡ 0 }
-    ensures updates { result ≡ true → updates_in (divider_of r.now) n ≡ 0 }
-{
-    let divider = registers::divider(r);
-    divider.is_held() || (divider.has_no_update(n) && divider.has_no_tick(n))
-}
-
-/// Lets `n` pulses pass, apart from the calls that find most stretches quiet.
+/// Lets `n` pulses pass that may bring events, and plans anew.
 #[inline(never)]
-fn pulses_with_events(r: &mut RtcParts, n: u64) -> RtcEvents
+fn take_and_plan(r: &mut RtcParts, quiet: &mut u16, n: u64) -> RtcEvents
     requires { IsRtc r.old }
-    ensures { HasTaken n r.old r.new result }
+    ensures taken { HasTaken n r.old r.new result }
+    ensures planned { quiet.new ≡ plan_of r.new }
 {
-    take_pulses(r, n)
+    let events = take_pulses(r, n);
+    *quiet = plan_of(r);
+    events
 }
 
-/// Lets `n` pulses pass, and returns their events. Where none falls the divider counts on.
+/// Lets `n` pulses pass, and returns their events.
 #[inline(always)]
-pub(crate) fn pulses(r: &mut RtcParts, n: u64) -> RtcEvents
-    requires { IsRtc r.old }
-    ensures { HasTaken n r.old r.new result }
+pub(crate) fn pulses(r: &mut RtcParts, quiet: &mut u16, n: u64) -> RtcEvents
+    requires valid { IsRtc r.old }
+    requires planned { quiet.old ≡ plan_of r.old }
+    ensures taken { HasTaken n r.old r.new result }
+    ensures planned { quiet.new ≡ plan_of r.new }
 {
-    let divider = registers::divider(r);
-    if divider.is_held() {
+    if is_quiet(r, *quiet, n) {
+        take_planned(r, quiet, n);
         return RtcEvents::NONE;
     }
-    if divider.only_counts(n) && divider.has_no_tick(n) {
-        count_on(r, n);
-        return RtcEvents::NONE;
-    }
-    pulses_with_events(r, n)
+    take_and_plan(r, quiet, n)
 }
 
-/// Lets `n` pulses pass that change more than the divider's count.
+/// Lets `n` pulses pass that aren't all planned, for a caller that asks for no events.
+#[cold]
 #[inline(never)]
-fn pass_events(r: &mut RtcParts, n: u64)
+fn pass_events(r: &mut RtcParts, quiet: &mut u16, n: u64)
     requires { IsRtc r.old }
-    ensures { r.new ≡ rtc_pulsed_times n r.old }
+    ensures state { r.new ≡ rtc_pulsed_times n r.old }
+    ensures planned { quiet.new ≡ plan_of r.new }
 {
     let _events = take_pulses(r, n);
+    *quiet = plan_of(r);
 }
 
-/// Whether `n` pulses, if they bring no update, leave register C: PF is up, or there is no periodic event.
+/// Lets `n` pulses pass for a caller that asks for no events.
 #[inline(always)]
-fn leaves_flags(r: &RtcParts, divider: &Divider, n: u64) -> bool
-    requires { divider.now ≡ divider_of r.now }
-    ensures { result ≡ true → (pf_of r.now ≡ true) ⊎ (ticks_in (divider_of r.now) n ≡ 0) }
+pub(crate) fn pass(r: &mut RtcParts, quiet: &mut u16, n: u64)
+    requires valid { IsRtc r.old }
+    requires planned { quiet.old ≡ plan_of r.old }
+    ensures state { r.new ≡ rtc_pulsed_times n r.old }
+    ensures planned { quiet.new ≡ plan_of r.new }
 {
-    registers::is_flagged(r, PERIODIC) || divider.has_no_tick(n)
-}
-
-/// Lets `n` pulses pass for a caller that asks for no events. Without an update, and with PF up or no periodic event, the
-/// divider counts on.
-#[inline(always)]
-pub(crate) fn pass(r: &mut RtcParts, n: u64)
-    requires { IsRtc r.old }
-    ensures { r.new ≡ rtc_pulsed_times n r.old }
-{
-    let divider = registers::divider(r);
-    if divider.is_held() {
-        return;
+    if n <= u64::from(*quiet) {
+        take_planned(r, quiet, n);
+    } else {
+        pass_events(r, quiet, n);
     }
-    if divider.only_counts(n) && leaves_flags(r, &divider, n) {
-        count_on(r, n);
-        return;
-    }
-    pass_events(r, n);
 }

@@ -1,5 +1,6 @@
 //! The board under the lock, whose devices run where they are needed.
 ghost use Rattle.std.specs.Prelude.{◌≡◌, ◌≤◌, IfOk};
+ghost use Rattle.board_core.specs.Lazy.{caught_up, IsLazy};
 ghost use Rattle.board_core.specs.Outcome.{IsAsked, IsOutcome};
 ghost use Rattle.board_history.specs.Machine.{page_at};
 
@@ -48,8 +49,7 @@ impl LazyBox {
         requires { IsAsked self.old asked.cpu asked.access reply.old }
         ensures { IsOutcome self.old asked.cpu asked.h asked.access result self.new reply.old reply.new }
     {
-        self.board
-            .answer_lagging(&mut self.lag, asked.cpu, asked.h, asked.access, reply)
+        answer_lagging(&mut self.board, &mut self.lag, asked, reply)
     }
 
     /// How many processors there are.
@@ -72,8 +72,29 @@ impl LazyBox {
     pub(crate) fn into_board(self) -> Box<BoardState>
         ensures { result.value ≡ self }
     {
-        let LazyBox { mut board, mut lag } = self;
-        board.catch_up(&mut lag);
+        let LazyBox { mut board, lag } = self;
+        board.catch_up(&lag);
         board
     }
+}
+
+/// One access to a board that may lag so far.
+#[inline(always)]
+fn answer_lagging(
+    board: &mut BoardState,
+    lag: &mut Lag,
+    asked: Asked,
+    reply: &mut Reply,
+) -> Result<(), Refusal>
+    requires lazy { IsLazy board.old lag.old.host lag.old.horizon }
+    requires asked { IsAsked (caught_up board.old lag.old) asked.cpu asked.access reply.old }
+    ensures outcome { IsOutcome (caught_up board.old lag.old) asked.cpu asked.h asked.access result
+        (caught_up board.new lag.new) reply.old reply.new }
+    ensures lazy { IsLazy board.new lag.new.host lag.new.horizon }
+{
+    let Asked { cpu, h, access } = asked;
+    if board.take_lagging(lag, cpu, h, access, reply) {
+        return Ok(());
+    }
+    Err(board.refusal(cpu, h, access))
 }

@@ -26,4 +26,4 @@ mod tests;
 pub use history::Event;
 pub use line::{Acked, TickLine};
 pub use parts::{Counts, Policy, TickField, TickParts, lost_valid, queue_valid};
-pub use stretch::run_line;
+pub use stretch::{run_line, up_from};

@@ -2,7 +2,7 @@
 
 ghost use Rattle.std.specs.Prelude.{◌≡◌, ◌≤◌, ◌↔◌, IsNone};
 ghost use Rattle.std.specs.Option.{SomeIff};
-ghost use Rattle.tick_policy.specs.Parts.{policy_byte, policy_of, is_kept, IsTickLine, queue_valid};
+ghost use Rattle.tick_policy.specs.Parts.{policy_byte, policy_of, is_kept, is_slew, IsTickLine, queue_valid};
 ghost use Rattle.tick_policy.specs.Parts.{lost_valid, first_fault};
 
 /// What becomes of a tick that is due while the line is up.
@@ -22,6 +22,14 @@ impl Policy {
         ensures { result ≡ policy_byte self }
     {
         self as u8
+    }
+
+    /// Whether a tick that waits is shown at a catch-up point.
+    #[inline(always)]
+    pub fn is_slew(self) -> bool
+        ensures { result ≡ is_slew self }
+    {
+        matches!(self, Policy::Slew)
     }
 
     /// The policy of that number, or none where it is that of none.

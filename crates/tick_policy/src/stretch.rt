@@ -1,9 +1,7 @@
 //! A tick line over a stretch of nanoseconds in which nobody acknowledges it.
 
-ghost use Rattle.std.specs.Prelude.{◌≡◌, ℕ, ◌+◌, ◌-◌, ◌^◌, ◌<◌, ◌≤◌, ◌&&◌, if◌then◌else◌, Option};
-ghost use Rattle.std.specs.Prelude.{Some};
+ghost use Rattle.std.specs.Prelude.{◌≡◌, ℕ, ◌+◌, ◌^◌, ◌<◌, ◌≤◌};
 ghost use Rattle.irq_edges.specs.Rises.{is_up_at};
-ghost use Rattle.tick_policy.specs.Line.{is_waiting};
 ghost use Rattle.tick_policy.specs.Stretch.{caught_up_where, is_caught, line_end, up_from};
 ghost use Rattle.tick_policy.specs.Stretch.{IsStretch};
 ghost use Rattle.tick_policy.specs.Stretch.{line_after, line_after_points};
@@ -48,40 +46,44 @@ pub fn run_line(
         IsStretch source slew from n point ticks first → (j : ℕ) → j ≤ n →
         (line_after_points source slew from j line.old).up ≡ is_up_at (from + j) result }
 {
-    let was_up = line.is_up();
-    let rose = catch_up_first(line, point, to, first);
+    let since = up_from(line, from, to, point, first);
+    catch_up_first(line, to, point, first);
     line.due(ticks);
-    start_of(was_up, rose, from, point, first)
+    since
 }
 
-/// Takes the line through the first catch-up point, where that comes by `to` and before the first
-/// tick. Answers whether it rose.
-fn catch_up_first(line: &mut TickLine, point: u64, to: u64, first: Option<u64>) -> bool
-    ensures state { line.new ≡ caught_up_where (is_caught point to first) line.old }
-    ensures rose { result ≡ (is_caught point to first && is_waiting line.old) }
+/// Takes the line through the first catch-up point, where that comes by `to` and before the first tick.
+#[inline(always)]
+fn catch_up_first(line: &mut TickLine, to: u64, point: u64, first: Option<u64>)
+    ensures { line.new ≡ caught_up_where (is_caught point to first) line.old }
 {
-    is_caught(point, to, first) && line.catch_up()
+    if is_caught(to, point, first) {
+        line.catch_up();
+    }
+}
+
+/// From when on the line is up in such a stretch, whose first tick comes at `first`: what `run_line` answers. The line
+/// stays as it is.
+#[inline(always)]
+pub fn up_from(line: &TickLine, from: u64, to: u64, point: u64, first: Option<u64>) -> Option<u64>
+    ensures { result ≡ up_from from point to first line.now }
+{
+    if line.is_up() {
+        Some(from)
+    } else if line.is_waiting() && is_caught(to, point, first) {
+        Some(point)
+    } else {
+        first
+    }
 }
 
 /// Whether the first catch-up point comes by `to` and before the first tick.
-fn is_caught(point: u64, to: u64, first: Option<u64>) -> bool
+#[inline(always)]
+fn is_caught(to: u64, point: u64, first: Option<u64>) -> bool
     ensures { result ≡ is_caught point to first }
 {
     match first {
         None => point <= to,
         Some(at) => point <= to && point < at,
-    }
-}
-
-/// From when on the line is up.
-fn start_of(was_up: bool, rose: bool, from: u64, point: u64, first: Option<u64>) -> Option<u64>
-    ensures { result ≡ (if was_up then Some from else (if rose then Some point else first)) }
-{
-    if was_up {
-        Some(from)
-    } else if rose {
-        Some(point)
-    } else {
-        first
     }
 }

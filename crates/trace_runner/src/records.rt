@@ -1,7 +1,6 @@
 //! The answers to records.
-ghost use Rattle.std.specs.Prelude.{◌≡◌, ◌<◌, ◌≤◌, ◌++◌, true, None, OnOk, OnErr};
+ghost use Rattle.std.specs.Prelude.{◌≡◌, ◌<◌, ◌≤◌, ◌++◌, IsSome, None, OnOk, OnErr};
 ghost use Rattle.std.specs.Io.{StartsWith};
-ghost use Rattle.board_types.specs.Legal.{is_legal};
 ghost use Rattle.board_types.specs.Reply.{IsFresh};
 ghost use Rattle.board_types.specs.declared.setup.TheConstants.{HV_FORMAT};
 ghost use Rattle.trace_text.specs.declared.reading.Item.TheVariants.{Next};
@@ -10,18 +9,20 @@ ghost use Rattle.race_phase.specs.Blocks.{block_of};
 ghost use Rattle.race_phase.specs.declared.records.Answer.TheVariants.{Acted};
 ghost use Rattle.board_core.specs.Pages.{page_reply, clock_reply, after_clock};
 ghost use Rattle.board_core.specs.Hv.{hv_reply};
+ghost use Rattle.board_core.specs.Refusals.{refusal_of};
+ghost use Rattle.trace_text.specs.Records.{asking, reading};
 ghost use Rattle.reply_text.specs.Text.{page_text, clock_text, hv_text};
-ghost use Rattle.trace_runner.specs.Records.{refused_count, answer_unless, job_answer};
+ghost use Rattle.trace_runner.specs.Records.{refused_count, answer_unless};
 ghost use Rattle.trace_runner.specs.Replay.{record_answer, with_board};
 ghost use Rattle.trace_runner.specs.Ready.{Suits};
 
 use crate::replay::Replay;
-use crate::status::{Verdict, refuse, refuse_access, refused_time};
-use board_core::{Access, Reply};
+use crate::status::{Verdict, refuse, refused_access, refused_time};
+use board_core::Reply;
 use clk_units::NoMemory;
 use race_phase::{Deliveries, NewHost, access_block};
 use reply_text::{CountedLines, hv_line, page_line};
-use trace_text::{Call, Job, Record};
+use trace_text::{Asked, Call, ClockRead, Job, Record};
 
 impl Replay {
     /// Answers a record: appends its block, or refuses it. After an `Err` the text begins as it was. Only a refusal writes
@@ -39,16 +40,28 @@ impl Replay {
         ensures { IsAnswered (record_answer line given.now self.old) self.old self.new
             out.old.items out.new.items end.new result }
     {
-        if let Job::Ask(Call::Act { access }) = given.job {
-            return self.answer_access(line, given, access, out, end);
+        let cpu = given.cpu;
+        let h = given.h;
+        match given.job {
+            Job::Ask(Call::Act { access }) => {
+                self.answer_access(line, Asked { cpu, h, access }, out, end)
+            }
+            Job::Ask(Call::ReadPage { page }) => self.answer_page(line, page, h, out, end),
+            Job::Ask(Call::ReadClock { page }) => {
+                self.answer_clock_apart(line, ClockRead { cpu, h, page }, out, end)
+            }
+            Job::Ask(Call::ReadHv) => self.answer_hv(line, h, out, end),
+            Job::Save => self.answer_save(line, given, out, end),
+            Job::Move { khz, start, gap } => {
+                self.answer_move(line, given, NewHost { khz, start, gap }, out, end)
+            }
         }
-        self.answer_job(line, given, out, end)
     }
 
-    /// The same, apart from where most records are answered: with all of it there, that would be too large to go into the
-    /// loop over the lines.
+    /// The same, apart from where it is called.
+    #[cold]
     #[inline(never)]
-    fn answer_job(
+    pub(crate) fn answer_record_apart(
         &mut self,
         line: u64,
         given: &Record,
@@ -60,47 +73,53 @@ impl Replay {
         ensures { IsAnswered (record_answer line given.now self.old) self.old self.new
             out.old.items out.new.items end.new result }
     {
-        match given.job {
-            Job::Ask(Call::Act { access }) => self.answer_access(line, given, access, out, end),
-            Job::Ask(Call::ReadPage { page }) => self.answer_page(line, page, given.h, out, end),
-            Job::Ask(Call::ReadClock { page }) => self.answer_clock(line, page, given.h, out, end),
-            Job::Ask(Call::ReadHv) => self.answer_hv(line, given.h, out, end),
-            Job::Save => self.answer_save(line, given, out, end),
-            Job::Move { khz, start, gap } => {
-                self.answer_move(line, given, NewHost { khz, start, gap }, out, end)
-            }
-        }
+        self.answer_record(line, given, out, end)
     }
 
     /// Answers an access to the board.
     #[inline(always)]
-    fn answer_access(
+    pub(crate) fn answer_access(
         &mut self,
         line: u64,
-        given: &Record,
-        access: Access,
+        asked: Asked,
         out: &mut Vec<u8>,
         end: &mut Option<Verdict>,
     ) -> Result<(), NoMemory>
-        requires cpu { given.now.cpu < self.old.board.cpus }
-        requires legal { is_legal self.old.board.cpus self.old.board.format access ≡ true }
+        requires suits { Suits (Next (asking asked)) self.old.board }
         requires open { end.old ≡ None }
-        ensures { let by = job_answer line given.now.cpu given.now.h (Job.Ask (Call.Act access))
-            self.old.deliveries self.old.board in
-            IsAnswered (with_board by self.old) self.old self.new
+        ensures { IsAnswered (record_answer line (asking asked) self.old) self.old self.new
             out.old.items out.new.items end.new result }
     {
+        let Asked { cpu, h, access } = asked;
         let board = &mut self.board;
         let reply = &mut board.reply;
-        match board.state.answer(given.cpu, given.h, access, reply) {
-            Ok(()) => {
-                if reply.edges.is_empty() && reply.bursts.is_empty() {
-                    return board.lines.board_line(line, reply, out);
-                }
-                print_block(line, reply, &self.deliveries, &mut board.lines, out)
-            }
-            Err(refusal) => refuse_access(line, &refusal, out, end),
+        if !board.state.take(cpu, h, access, reply) {
+            return self.refuse_access(line, Asked { cpu, h, access }, out, end);
         }
+        if reply.edges.is_empty() && reply.bursts.is_empty() {
+            return board.lines.board_line(line, reply, out);
+        }
+        print_block(line, reply, &self.deliveries, &mut board.lines, out)
+    }
+
+    /// Refuses an access, with its cause. It is apart, since a cause has a place that a call clears as it begins.
+    #[cold]
+    #[inline(never)]
+    fn refuse_access(
+        &self,
+        line: u64,
+        asked: Asked,
+        out: &mut Vec<u8>,
+        end: &mut Option<Verdict>,
+    ) -> Result<(), NoMemory>
+        requires suits { Suits (Next (asking asked)) self.now.board }
+        requires refused { IsSome (refusal_of self.now.board asked.cpu asked.h asked.access) }
+        requires open { end.old ≡ None }
+        ensures { IsAnswered (record_answer line (asking asked) self.now) self.now self.now
+            out.old.items out.new.items end.new result }
+    {
+        let refusal = self.board.state.refusal(asked.cpu, asked.h, asked.access);
+        refuse(line, refused_access(refusal), out, end)
     }
 
     /// Answers a read of a page.
@@ -128,6 +147,23 @@ impl Replay {
             }
             Err(fault) => refuse(line, refused_time(fault), out, end),
         }
+    }
+
+    /// Answers a read of the clock, apart from where it is called: in one place the compiler inlines all of it.
+    #[inline(never)]
+    pub(crate) fn answer_clock_apart(
+        &mut self,
+        line: u64,
+        read: ClockRead,
+        out: &mut Vec<u8>,
+        end: &mut Option<Verdict>,
+    ) -> Result<(), NoMemory>
+        requires suits { Suits (Next (reading read)) self.old.board }
+        requires open { end.old ≡ None }
+        ensures { IsAnswered (record_answer line (reading read) self.old) self.old self.new
+            out.old.items out.new.items end.new result }
+    {
+        self.answer_clock(line, read.page, read.h, out, end)
     }
 
     /// Answers a read of the clock.

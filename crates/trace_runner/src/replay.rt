@@ -29,7 +29,7 @@ use race_phase::Deliveries;
 use reply_text::{Refused, final_line, state_line};
 use save_state::encode;
 use trace_loop::Answerer;
-use trace_text::{Begin, Header, Item, Job, Reading, Record};
+use trace_text::{Begin, Front, Header, Item, Job, Reading, Record};
 
 /// A trace that is replayed: its records are answered one after the other.
 #[derive(Drop)]
@@ -58,6 +58,16 @@ pub(crate) fn no_routes() -> Deliveries
     Deliveries {
         cpus: 1,
         lines: [None; 6],
+    }
+}
+
+/// A place for a record that is read.
+#[inline(always)]
+fn no_record() -> Record {
+    Record {
+        cpu: 0,
+        h: 0,
+        job: Job::Save,
     }
 }
 
@@ -111,7 +121,7 @@ impl Replay {
                 self.begin(header);
                 Ok(())
             }
-            Item::Next(record) => self.answer_record(line, record, out, end),
+            Item::Next(record) => self.answer_record_apart(line, record, out, end),
             Item::End => {
                 self::end(self.board.state.state_mut(), self.shows_state, out)?;
                 *end = Some(Verdict::Done);
@@ -122,6 +132,78 @@ impl Replay {
 }
 
 impl Replay {
+    /// Answers a line whose front was read, and which isn't of the usual accesses: mostly a reading of the clock.
+    #[inline(never)]
+    #[tactic(auto, unfolding(crate::specs::Replay::answer_of))]
+    fn answer_after(
+        &mut self,
+        line: u64,
+        front: Front<'_>,
+        out: &mut Vec<u8>,
+        end: &mut Option<Verdict>,
+    ) -> Result<(), NoMemory>
+        requires room { line < 2 ^ 63 }
+        requires may { IsReady line self.old }
+        requires open { end.old ≡ None }
+        ensures answered { IsAnswered (answer_of line self.old front.entry) self.old self.new
+            out.old.items out.new.items end.new result }
+        ensures may { OnOk result (end.new ≡ None → IsReady (line + 1) self.new) }
+    {
+        if let Some(read) = self.reading.take_clock(&front) {
+            return self.answer_clock_apart(line, read, out, end);
+        }
+        self.answer_rest(line, &front, out, end)
+    }
+
+    /// Answers any other line whose front was read.
+    #[inline(never)]
+    #[tactic(auto, unfolding(crate::specs::Replay::answer_of))]
+    fn answer_rest(
+        &mut self,
+        line: u64,
+        front: &Front<'_>,
+        out: &mut Vec<u8>,
+        end: &mut Option<Verdict>,
+    ) -> Result<(), NoMemory>
+        requires room { line < 2 ^ 63 }
+        requires may { IsReady line self.old }
+        requires open { end.old ≡ None }
+        ensures answered { IsAnswered (answer_of line self.old front.now) self.old self.new
+            out.old.items out.new.items end.new result }
+        ensures may { OnOk result (end.new ≡ None → IsReady (line + 1) self.new) }
+    {
+        let mut given = no_record();
+        if self.reading.read_after(front, &mut given) {
+            return self.answer_record(line, &given, out, end);
+        }
+        self.answer_other(line, front.line(), out, end)
+    }
+
+    /// Answers a line of any other front.
+    #[cold]
+    #[inline(never)]
+    #[tactic(auto, unfolding(crate::specs::Replay::answer_of))]
+    fn answer_apart(
+        &mut self,
+        line: u64,
+        text: &[u8],
+        out: &mut Vec<u8>,
+        end: &mut Option<Verdict>,
+    ) -> Result<(), NoMemory>
+        requires room { line < 2 ^ 63 }
+        requires may { IsReady line self.old }
+        requires open { end.old ≡ None }
+        ensures answered { IsAnswered (answer_of line self.old text.now) self.old self.new
+            out.old.items out.new.items end.new result }
+        ensures may { OnOk result (end.new ≡ None → IsReady (line + 1) self.new) }
+    {
+        let mut given = no_record();
+        if self.reading.read_apart(text, &mut given) {
+            return self.answer_record_apart(line, &given, out, end);
+        }
+        self.answer_other(line, text, out, end)
+    }
+
     /// Answers a line that is no record, or one that is refused. It is apart, since its item has room for a board,
     /// which a call clears as it begins.
     #[cold]
@@ -178,6 +260,8 @@ impl Answerer<Verdict> for Replay {
 
     ghost may = { IsReady };
 
+    /// An access as most lines ask for it is read and answered here, in registers. Any other line is read and answered by a
+    /// call: it would make this too large to be inlined in the loop over the lines.
     #[inline(always)]
     #[tactic(auto, unfolding(crate::specs::Replay::answer_of))]
     fn answer(
@@ -187,15 +271,13 @@ impl Answerer<Verdict> for Replay {
         out: &mut Vec<u8>,
         end: &mut Option<Verdict>,
     ) -> Result<(), NoMemory> {
-        let mut given = Record {
-            cpu: 0,
-            h: 0,
-            job: Job::Save,
+        let Some(front) = Front::of(text) else {
+            return self.answer_apart(line, text, out, end);
         };
-        if self.reading.read_record(text, &mut given) {
-            return self.answer_record(line, &given, out, end);
+        if let Some(asked) = self.reading.take_usual(&front) {
+            return self.answer_access(line, asked, out, end);
         }
-        self.answer_other(line, text, out, end)
+        self.answer_after(line, front.again(), out, end)
     }
 
     fn close(&mut self, _line: u64, out: &mut Vec<u8>) -> Result<Verdict, NoMemory> {

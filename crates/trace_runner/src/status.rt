@@ -167,21 +167,3 @@ pub(crate) fn refuse(
     *end = Some(stop(line, why, out)?);
     Ok(())
 }
-
-/// The same for an access that the board refuses.
-// It takes a reference: to copy the refusal makes the answer to a line too large to be inlined in the loop over lines.
-#[cold]
-#[inline(never)]
-pub(crate) fn refuse_access(
-    line: u64,
-    refusal: &Refusal,
-    out: &mut Vec<u8>,
-    end: &mut Option<Verdict>,
-) -> Result<(), NoMemory>
-    ensures printed { OnOk result
-        (out.new.items ≡ out.old.items ++ refused_text line (refused_access refusal.now)) }
-    ensures ends { OnOk result (end.new ≡ Some (Verdict.Stopped line (refused_access refusal.now))) }
-    ensures err { OnErr result (out.new.items ≡ out.old.items) }
-{
-    refuse(line, refused_access(*refusal), out, end)
-}

@@ -1,9 +1,10 @@
 -- The usual rows of the table of records, by the bytes that they begin with.
-use Rattle.std.proofs.Common.{◌≡◌, List, [], ℕ, ◌++◌, codes, Option, Some, None, IfSome, Result, Ok, IsErr, sym, ◌∙◌, ap, refl}
-use Rattle.board_types.specs.declared.access.Access.TheVariants.{Ack, Step}
+use Rattle.std.proofs.Common.{◌≡◌, List, [], ℕ, ◌++◌, codes, Option, Some, None, IfSome, Result, Ok, sym, ◌∙◌, ap, refl}
+use Rattle.board_types.specs.declared.access.Access.{Access}
+use Rattle.board_types.specs.declared.access.Access.TheVariants.{Ack, HpetRead, Step, Refresh}
 use Rattle.reply_text.specs.declared.ends.Reason.{Reason}
-use Rattle.trace_text.specs.Tokens.{words_of}
-use Rattle.trace_text.specs.Records.{job_of, in_row, out_row, line_row, page_row, hr_row}
+use Rattle.trace_text.specs.Tokens.{words_of, number_in, decimal_in, hex_in}
+use Rattle.trace_text.specs.Records.{job_of, in_row, out_row, line_row, page_row, hr_row, hw_row}
 use Rattle.trace_text.specs.declared.records.Body.{Body}
 use Rattle.trace_text.specs.declared.records.Call.TheVariants.{Act, ReadClock}
 use Rattle.trace_text.specs.declared.records.Job.{Job}
@@ -25,31 +26,41 @@ pub ack_first : (body : Body) (m : List ℕ) → job_of body (words_of (codes "a
 unfolding job_of words_of
 ack_first body m = refl
 
+pub refresh_first : (body : Body) (m : List ℕ)
+    → job_of body (words_of (codes "refresh " ++ m)) ≡ page_row body (λ p. Act (Refresh p)) (words_of m)
+unfolding job_of words_of
+refresh_first body m = refl
+
+pub hw_first : (body : Body) (m : List ℕ) → job_of body (words_of (codes "hw " ++ m)) ≡ hw_row body (words_of m)
+unfolding job_of words_of
+hw_first body m = refl
+
 pub hr_first : (body : Body) (m : List ℕ) → job_of body (words_of (codes "hr " ++ m)) ≡ hr_row body (words_of m)
 unfolding job_of words_of
 hr_first body m = refl
 
--- no words are no record's
-pub no_words : (body : Body) → IsErr (job_of body [])
-unfolding job_of
-no_words body = refl
-
 -- what the row of a name made of the words after it
-pub by_row : (row : List (List ℕ) → Result Job Reason) (body : Body) (name left more : List ℕ) (ws : List (List ℕ)) (r : Option Job)
-    → ((m : List ℕ) → job_of body (words_of (name ++ m)) ≡ row (words_of m)) → left ≡ name ++ more → ws ≡ words_of more
-    → IfSome r (λ j. row ws ≡ Ok j) → IfSome r (λ j. job_of body (words_of left) ≡ Ok j)
-by_row row body name left more ws None first e same job = tt
-by_row row body name left more ws (Some j) first e same job =
-    ap (λ (l : List ℕ). job_of body (words_of l)) e ∙ first more ∙ ap row (sym same) ∙ job
+pub by_row : {A : Type 0} (job : A → Job) (row : List (List ℕ) → Result Job Reason) (body : Body) (name left more : List ℕ) (ws : List (List ℕ))
+    (r : Option A) → ((m : List ℕ) → job_of body (words_of (name ++ m)) ≡ row (words_of m)) → left ≡ name ++ more → ws ≡ words_of more
+    → IfSome r (λ j. row ws ≡ Ok (job j)) → IfSome r (λ j. job_of body (words_of left) ≡ Ok (job j))
+by_row job row body name left more ws None first e same made = tt
+by_row job row body name left more ws (Some j) first e same made =
+    ap (λ (l : List ℕ). job_of body (words_of l)) e ∙ first more ∙ ap row (sym same) ∙ made
 
--- a step, with nothing after its name
-step_alone : (body : Body) (left more : List ℕ) → left ≡ codes "step" ++ more → more ≡ []
-    → job_of body (words_of left) ≡ Ok (Ask (Act Step))
+-- a step, with nothing after its name, and a read of the HPET's whole main counter
+pub step_alone : (body : Body) → job_of body (words_of (codes "step" ++ [])) ≡ Ok (Ask (Act Step))
 unfolding job_of words_of
-step_alone body left more e none =
-    ap (λ (l : List ℕ). job_of body (words_of l)) (e ∙ ap (λ (m : List ℕ). codes "step" ++ m) none)
+step_alone body = refl
 
-pub by_step : (body : Body) (left more : List ℕ) (r : Option Job) → left ≡ codes "step" ++ more
-    → IfSome r (λ j. (more ≡ []) × (j ≡ Ask (Act Step))) → IfSome r (λ j. job_of body (words_of left) ≡ Ok j)
-by_step body left more None e job = tt
-by_step body left more (Some j) e job = step_alone body left more e job.0 ∙ ap (λ (k : Job). Ok k) (sym job.1)
+pub counter_alone : (body : Body) → job_of body (words_of (codes "hr f" ++ codes "0 8")) ≡ Ok (Ask (Act (HpetRead 0xf0 8)))
+unfolding job_of words_of decimal_in hex_in number_in
+counter_alone body = refl
+
+-- the access of a line that has these bytes alone
+pub by_bytes : (name rest : List ℕ) (access : Access) (body : Body) (left more : List ℕ) (r : Option Access)
+    → job_of body (words_of (name ++ rest)) ≡ Ok (Ask (Act access)) → left ≡ name ++ more
+    → IfSome r (λ a. (more ≡ rest) × (a ≡ access)) → IfSome r (λ a. job_of body (words_of left) ≡ Ok (Ask (Act a)))
+by_bytes name rest access body left more None alone e job = tt
+by_bytes name rest access body left more (Some a) alone e job =
+    ap (λ (l : List ℕ). job_of body (words_of l)) (e ∙ ap (λ (m : List ℕ). name ++ m) job.0) ∙ alone
+    ∙ ap (λ (k : Access). Ok (Ask (Act k))) (sym job.1)

@@ -65,6 +65,8 @@ use Rattle.trace_text.specs.declared.records.Call.TheVariants.{Act, ReadPage, Re
 use Rattle.trace_text.specs.declared.records.Job.{Job}
 use Rattle.trace_text.specs.declared.records.Job.TheVariants.{Ask, Save, Move}
 use Rattle.trace_text.specs.declared.records.Record.{Record}
+use Rattle.trace_text.specs.declared.records.Asked.{Asked}
+use Rattle.trace_text.specs.declared.records.ClockRead.{ClockRead}
 use Rattle.trace_text.specs.declared.records.Body.{Body}
 
 -- an access, where the board takes it
@@ -188,6 +190,14 @@ in_turn body cpu h job =
 -- CounterFell
 unfoldable pub record_of : Body → List (List ℕ) → Result Record Reason
 record_of body = place dec (λ cpu. place dec (λ h ws. and_then (in_turn body cpu h) (job_of body ws)))
+
+-- the record that asks for an access
+abbrev pub asking : Asked → Record
+asking a = record { cpu = a.cpu; h = a.h; job = Ask (Act a.access) }
+
+-- .. and the one that reads the clock
+abbrev pub reading : ClockRead → Record
+reading r = record { cpu = r.cpu; h = r.h; job = Ask (ReadClock r.page) }
 
 -- the counters before, after a record: a move begins with its own start, for every processor
 abbrev pub before_after : List ℕ → Record → Job → List ℕ

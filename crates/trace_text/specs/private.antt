@@ -3,3 +3,4 @@ pub mod Groups
 pub mod State
 pub mod Lines
 pub mod Reads
+pub mod Fronts

@@ -25,7 +25,8 @@ ghost use Rattle.trace_text.specs.Records.{
 
 use crate::records::{Body, Call, Job};
 use crate::words::Words;
-use board_types::{APIC_FORMAT, Access, HV_FORMAT, TickSource, is_hpet_place, is_line, is_port};
+use board_types::{APIC_FORMAT, Access, HV_FORMAT, TickSource, is_hpet_place, is_port};
+use irq_edges::is_line;
 use reply_text::Reason;
 
 /// The MSR of steal time (Linux, "KVM-specific MSRs", MSR_KVM_STEAL_TIME), which isn't kept.

@@ -17,6 +17,7 @@
 mod bytes;
 mod digits;
 mod faults;
+mod front;
 mod groups;
 mod header;
 mod header_lines;
@@ -28,9 +29,10 @@ mod usual;
 mod words;
 
 pub use faults::RecordFault;
+pub use front::Front;
 pub use header::{Begin, Head, Header};
 pub use reading::{Item, Reading, ReadingParts, Stage};
-pub use records::{Body, Call, Job, Record};
+pub use records::{Asked, Body, Call, ClockRead, Job, Record};
 pub use reply_text::Reason;
 
 #[cfg(test)]

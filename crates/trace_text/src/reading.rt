@@ -14,6 +14,9 @@ ghost use Rattle.std.specs.Prelude.{
   Ok,
   OnOk,
   IfOk,
+  OnSome,
+  IfSome,
+  IfNone,
 };
 ghost use Rattle.std.specs.Bool.{OnTrue, OnFalse};
 ghost use Rattle.std.specs.Str.{bytes_eq};
@@ -37,11 +40,13 @@ ghost use Rattle.trace_text.specs.Lines.{
   met,
   is_skipped,
 };
+ghost use Rattle.trace_text.specs.Records.{asking, reading};
 ghost use Rattle.trace_loop.specs.Progress.{limit_of};
 
 use crate::faults::RecordFault;
+use crate::front::Front;
 use crate::header::{Head, Header, first_line};
-use crate::records::{Body, Record};
+use crate::records::{Asked, Body, ClockRead, Record};
 use crate::words::Words;
 use reply_text::Reason;
 use std::marker::Model;
@@ -147,11 +152,77 @@ impl Reading {
         }
     }
 
+    /// Takes the next line, whose front was read, if it is a record that asks for an access as most do. None for any other,
+    /// and for one that is refused: the reader then stays as it was. Nothing of it is in memory.
+    #[inline(always)]
+    pub fn take_usual(&mut self, front: &Front<'_>) -> Option<Asked>
+        requires { self.old.lines < 2 ^ 63 }
+        ensures record { IfSome result (λ a. taken self.old front.now ≡ Ok (Item.Next (asking a))) }
+        ensures state { OnSome result (self.new ≡ after_line front.now self.old) }
+        ensures valid { IfSome result (λ a. IsRecordAt self.old.stage (asking a)) }
+        ensures open { OnSome result (IsOpen self.new.stage) }
+        ensures none { IfNone result (self.new ≡ self.old) }
+    {
+        let asked = self.parts.stage.take_usual(front)?;
+        self.parts.lines += 1;
+        Some(asked)
+    }
+
+    /// The same of a record that reads the clock.
+    #[inline(always)]
+    pub fn take_clock(&mut self, front: &Front<'_>) -> Option<ClockRead>
+        requires { self.old.lines < 2 ^ 63 }
+        ensures record { IfSome result (λ r. taken self.old front.now ≡ Ok (Item.Next (reading r))) }
+        ensures state { OnSome result (self.new ≡ after_line front.now self.old) }
+        ensures valid { IfSome result (λ r. IsRecordAt self.old.stage (reading r)) }
+        ensures open { OnSome result (IsOpen self.new.stage) }
+        ensures none { IfNone result (self.new ≡ self.old) }
+    {
+        let read = self.parts.stage.take_clock(front)?;
+        self.parts.lines += 1;
+        Some(read)
+    }
+
+    /// Takes the next line, whose front was read, as `read_record` does.
+    #[inline(always)]
+    pub fn read_after(&mut self, front: &Front<'_>, into: &mut Record) -> bool
+        requires { self.old.lines < 2 ^ 63 }
+        ensures record { OnTrue result (taken self.old front.now ≡ Ok (Item.Next into.new)) }
+        ensures cause { OnFalse result (record_in (taken self.old front.now) ≡ None) }
+        ensures state { OnTrue result (self.new ≡ after_line front.now self.old) }
+        ensures valid { OnTrue result (IsRecordAt self.old.stage into.new) }
+        ensures open { OnTrue result (IsOpen self.new.stage) }
+        ensures none { OnFalse result (self.new ≡ self.old) }
+    {
+        if !self.parts.stage.read_after(front, into) {
+            return false;
+        }
+        self.parts.lines += 1;
+        true
+    }
+
     /// Takes the next line if it is a record, into one that is there: true where it is. For any other line, and for a
     /// record that is refused, the answer is false and the reader stays as it was: `take_line` then has the answer. After
     /// false the record there has no meaning. It costs less than `take_line`, whose items have room for a whole board.
     #[inline(always)]
     pub fn read_record(&mut self, line: &[u8], into: &mut Record) -> bool
+        requires { self.old.lines < 2 ^ 63 }
+        ensures record { OnTrue result (taken self.old line.now ≡ Ok (Item.Next into.new)) }
+        ensures cause { OnFalse result (record_in (taken self.old line.now) ≡ None) }
+        ensures state { OnTrue result (self.new ≡ after_line line.now self.old) }
+        ensures valid { OnTrue result (IsRecordAt self.old.stage into.new) }
+        ensures open { OnTrue result (IsOpen self.new.stage) }
+        ensures none { OnFalse result (self.new ≡ self.old) }
+    {
+        match &Front::of(line) {
+            Some(front) => self.read_after(front, into),
+            None => self.read_apart(line, into),
+        }
+    }
+
+    /// The same, apart from where it is called, and for a line of any front.
+    #[inline(never)]
+    pub fn read_apart(&mut self, line: &[u8], into: &mut Record) -> bool
         requires { self.old.lines < 2 ^ 63 }
         ensures record { OnTrue result (taken self.old line.now ≡ Ok (Item.Next into.new)) }
         ensures cause { OnFalse result (record_in (taken self.old line.now) ≡ None) }
@@ -196,7 +267,70 @@ impl Stage {
         }
     }
 
-    /// Reads a record after `begin`; false for any other line, and for one that is refused, which change nothing.
+    /// Takes a record after `begin` that asks for a usual access; None for any other line, and for one that is refused,
+    /// which change nothing.
+    #[inline(always)]
+    #[tactic(auto, unfolding(crate::specs::Lines::stepped))]
+    fn take_usual(&mut self, front: &Front<'_>) -> Option<Asked>
+        requires valid { IsStage self.old }
+        ensures record { IfSome result (λ a. stepped self.old front.now ≡ Ok (met (asking a) self.new)) }
+        ensures valid { IfSome result (λ a. IsRecordAt self.old (asking a)) }
+        ensures open { OnSome result (IsOpen self.new) }
+        ensures kept { IsStage self.new }
+        ensures fresh { OnSome result (fault_of self.old ≡ None) }
+        ensures none { IfNone result (self.new ≡ self.old) }
+    {
+        // What the front's line is says that its words are a record's.
+        let _line = front.line();
+        match self {
+            Stage::Running(body) => body.take_usual(front),
+            _ => None,
+        }
+    }
+
+    /// The same of a record that reads the clock.
+    #[inline(always)]
+    #[tactic(auto, unfolding(crate::specs::Lines::stepped))]
+    fn take_clock(&mut self, front: &Front<'_>) -> Option<ClockRead>
+        requires valid { IsStage self.old }
+        ensures record { IfSome result (λ r. stepped self.old front.now ≡ Ok (met (reading r) self.new)) }
+        ensures valid { IfSome result (λ r. IsRecordAt self.old (reading r)) }
+        ensures open { OnSome result (IsOpen self.new) }
+        ensures kept { IsStage self.new }
+        ensures fresh { OnSome result (fault_of self.old ≡ None) }
+        ensures none { IfNone result (self.new ≡ self.old) }
+    {
+        // What the front's line is says that its words are a record's.
+        let _line = front.line();
+        match self {
+            Stage::Running(body) => body.take_clock(front),
+            _ => None,
+        }
+    }
+
+    /// Reads a record after `begin`, of a line whose front was read; false for any other line, and for one that is refused,
+    /// which change nothing.
+    #[inline(always)]
+    #[tactic(auto, unfolding(crate::specs::Lines::stepped))]
+    fn read_after(&mut self, front: &Front<'_>, into: &mut Record) -> bool
+        requires valid { IsStage self.old }
+        ensures record { OnTrue result (stepped self.old front.now ≡ Ok (met into.new self.new)) }
+        ensures cause { OnFalse result (record_in (item_in (stepped self.old front.now)) ≡ None) }
+        ensures valid { OnTrue result (IsRecordAt self.old into.new) }
+        ensures open { OnTrue result (IsOpen self.new) }
+        ensures kept { IsStage self.new }
+        ensures fresh { OnTrue result (fault_of self.old ≡ None) }
+        ensures none { OnFalse result (self.new ≡ self.old) }
+    {
+        // What the front's line is says that its words are a record's.
+        let _line = front.line();
+        match self {
+            Stage::Running(body) => body.read_after(front, into),
+            _ => false,
+        }
+    }
+
+    /// The same of a line of any front.
     #[inline(always)]
     #[tactic(auto, unfolding(crate::specs::Lines::stepped))]
     fn read(&mut self, line: &[u8], into: &mut Record) -> bool
@@ -310,7 +444,7 @@ fn is_skipped(line: &[u8]) -> bool
 
 /// Whether a line is of words, and isn't `end`: it is short, and begins with a digit.
 #[inline(always)]
-fn may_be_record(line: &[u8]) -> bool
+pub(crate) fn may_be_record(line: &[u8]) -> bool
     ensures within { OnTrue result (nat_lt (limit_of line.now) (length line.now) ≡ false) }
     ensures words { OnTrue result (is_skipped line.now ≡ false) }
     ensures record { OnTrue result (bytes_eq line.now (codes "end") ≡ false) }

@@ -1,8 +1,10 @@
 //! Records: what a processor does at a host counter.
-ghost use Rattle.std.specs.Prelude.{◌≡◌, ◌<◌, ◌≤◌, Ok, IfOk, OnErr, IsErr, replicate};
+ghost use Rattle.std.specs.Prelude.{◌≡◌, ◌<◌, ◌≤◌, Ok, IfOk, OnErr, IsErr, IfSome, IfNone, replicate, slice_index};
 ghost use Rattle.std.specs.Bool.{OnTrue, OnFalse};
 ghost use Rattle.trace_text.specs.Tokens.{words_of};
 ghost use Rattle.trace_text.specs.Records.{
+  asking,
+  reading,
   job_of,
   record_of,
   body_after,
@@ -11,8 +13,10 @@ ghost use Rattle.trace_text.specs.Records.{
 };
 ghost use Rattle.trace_text.specs.private.Reads.{IsReadInto};
 
+use crate::front::Front;
 use crate::groups::job_in;
-use crate::usual::{usual_job, usual_read};
+use crate::jobs::act;
+use crate::usual::{usual_access, usual_clock, usual_job};
 use crate::words::Words;
 use board_types::Access;
 use reply_text::Reason;
@@ -52,6 +56,28 @@ pub struct Record {
     pub job: Job,
 }
 
+/// A record that asks for an access.
+#[derive(Clone, Copy, Debug, PartialEq, Eq)]
+pub struct Asked {
+    /// The processor.
+    pub cpu: u8,
+    /// The host's counter.
+    pub h: u64,
+    /// The access.
+    pub access: Access,
+}
+
+/// A record that reads the clock.
+#[derive(Clone, Copy, Debug, PartialEq, Eq)]
+pub struct ClockRead {
+    /// The processor.
+    pub cpu: u8,
+    /// The host's counter.
+    pub h: u64,
+    /// The processor by whose page it is read.
+    pub page: u8,
+}
+
 /// What is known after `begin`: the format, the number of processors, and the counter before of each.
 #[derive(Clone, Copy, Debug, PartialEq, Eq)]
 pub struct Body {
@@ -86,22 +112,63 @@ impl Body {
         Ok(Record { cpu, h, job })
     }
 
-    /// Reads the record of these words into one that is there, and remembers it for its processor; false where it is
-    /// refused. What most records are stays out of memory.
+    /// The record of a line with this front, if it asks for one of the usual accesses; it is remembered for its processor.
+    /// None for any other line. All of it stays out of memory.
     #[inline(always)]
     #[tactic(auto, unfolding(crate::specs::Records::record_of))]
-    pub(crate) fn read(&mut self, words: Words<'_>, into: &mut Record) -> bool
+    pub(crate) fn take_usual(&mut self, front: &Front<'_>) -> Option<Asked>
         requires { self.old.cpus ≤ 64 }
-        ensures { IsReadInto self.old words.entry result into.new self.new }
+        ensures record { IfSome result (λ a. record_of self.old (words_of front.now) ≡ Ok (asking a)) }
+        ensures valid { IfSome result (λ a. IsRecord self.old (asking a)) }
+        ensures next { IfSome result (λ a. self.new ≡ body_after self.old (asking a)) }
+        ensures still { IfNone result (self.new ≡ self.old) }
     {
-        let mut usual = words.again();
-        let Some((cpu, h)) = usual.cpu_and_counter() else {
-            return self.read_apart(words, into);
-        };
-        if !read_job(self, usual, &mut into.job) {
+        let access = usual_access(self, front.left())?;
+        let cpu = front.cpu();
+        let h = front.counter();
+        if !self.is_in_turn(cpu, h) {
+            return None;
+        }
+        let cpu = cpu as u8;
+        self.before[cpu as usize] = h;
+        Some(Asked { cpu, h, access })
+    }
+
+    /// The same of a record that reads the clock.
+    #[inline(always)]
+    #[tactic(auto, unfolding(crate::specs::Records::record_of))]
+    pub(crate) fn take_clock(&mut self, front: &Front<'_>) -> Option<ClockRead>
+        requires { self.old.cpus ≤ 64 }
+        ensures record { IfSome result (λ r. record_of self.old (words_of front.now) ≡ Ok (reading r)) }
+        ensures valid { IfSome result (λ r. IsRecord self.old (reading r)) }
+        ensures next { IfSome result (λ r. self.new ≡ body_after self.old (reading r)) }
+        ensures still { IfNone result (self.new ≡ self.old) }
+    {
+        let page = usual_clock(self, front.left())?;
+        let cpu = front.cpu();
+        let h = front.counter();
+        if !self.is_in_turn(cpu, h) {
+            return None;
+        }
+        let cpu = cpu as u8;
+        self.before[cpu as usize] = h;
+        Some(ClockRead { cpu, h, page })
+    }
+
+    /// Reads the record of a line with this front into one that is there, and remembers it for its processor; false where
+    /// it is refused.
+    #[inline(always)]
+    #[tactic(auto, unfolding(crate::specs::Records::record_of))]
+    pub(crate) fn read_after(&mut self, front: &Front<'_>, into: &mut Record) -> bool
+        requires { self.old.cpus ≤ 64 }
+        ensures { IsReadInto self.old (words_of front.now) result into.new self.new }
+    {
+        if !read_job(self, front.left(), &mut into.job) {
             return false;
         }
-        if cpu >= u64::from(self.cpus) || h < self.before[cpu as usize] {
+        let cpu = front.cpu();
+        let h = front.counter();
+        if !self.is_in_turn(cpu, h) {
             return false;
         }
         into.cpu = cpu as u8;
@@ -110,9 +177,8 @@ impl Body {
         true
     }
 
-    /// The same, apart from where it is called.
-    #[inline(never)]
-    fn read_apart(&mut self, words: Words<'_>, into: &mut Record) -> bool
+    /// The same of the words of any line.
+    pub(crate) fn read(&mut self, words: Words<'_>, into: &mut Record) -> bool
         requires { self.old.cpus ≤ 64 }
         ensures { IsReadInto self.old words.entry result into.new self.new }
     {
@@ -123,6 +189,17 @@ impl Body {
             }
             Err(_) => false,
         }
+    }
+
+    /// Whether there is such a processor, and its counter didn't fall.
+    #[inline(always)]
+    fn is_in_turn(&self, cpu: u64, h: u64) -> bool
+        requires { self.now.cpus ≤ 64 }
+        ensures there { OnTrue result (cpu < self.now.cpus) }
+        ensures counter { OnTrue result (slice_index self.now.before cpu ≤ h) }
+        ensures cause { OnFalse result (cpu < self.now.cpus → h < slice_index self.now.before cpu) }
+    {
+        cpu < u64::from(self.cpus) && h >= self.before[cpu as usize]
     }
 
     /// Remembers the counter of a record for its processor, and that of the new host for all where the board moves.
@@ -147,33 +224,33 @@ impl Body {
     }
 }
 
-/// Puts what a record does in its place; false where it does nothing that there is. What most records do is read here,
-/// and the rest apart.
+/// Puts what a record does in its place, by the bytes after the counter; false where it does nothing that there is. The
+/// usual accesses are read here, and the rest apart.
 #[inline(always)]
-fn read_job(body: &Body, words: Words<'_>, into: &mut Job) -> bool
-    ensures job { OnTrue result (job_of body.now words.entry ≡ Ok into.new) }
-    ensures cause { OnFalse result (IsErr (job_of body.now words.entry)) }
+fn read_job(body: &Body, left: &[u8], into: &mut Job) -> bool
+    ensures job { OnTrue result (job_of body.now (words_of left.now) ≡ Ok into.new) }
+    ensures cause { OnFalse result (IsErr (job_of body.now (words_of left.now))) }
     ensures valid { OnTrue result (IsJob body.now into.new) }
 {
-    let Some(left) = words.left() else {
-        return false;
-    };
-    if let Some(job) = usual_job(body, left) {
-        *into = job;
+    if let Some(access) = usual_access(body, left) {
+        *into = act(access);
         return true;
     }
     read_job_apart(body, left, into)
 }
 
-/// The same by the bytes after the counter, apart from where it is called. A read of the HPET is read by its bytes, and the
-/// rest by its words.
+/// The same, apart from where it is called. What guests ask often is read by its bytes, and the rest by its words.
 #[inline(never)]
 fn read_job_apart(body: &Body, left: &[u8], into: &mut Job) -> bool
     ensures job { OnTrue result (job_of body.now (words_of left.now) ≡ Ok into.new) }
     ensures cause { OnFalse result (IsErr (job_of body.now (words_of left.now))) }
     ensures valid { OnTrue result (IsJob body.now into.new) }
 {
-    if let Some(job) = usual_read(body, left) {
+    if let Some(page) = usual_clock(body, left) {
+        *into = Job::Ask(Call::ReadClock { page });
+        return true;
+    }
+    if let Some(job) = usual_job(body, left) {
         *into = job;
         return true;
     }

@@ -1,14 +1,24 @@
-//! What most records do, read where a line is answered: `in`, `out`, `step`, `clock`, `ack` and `hr`, as programs write
-//! them.
-ghost use Rattle.std.specs.Prelude.{◌≡◌, ◌≤◌, ◌%◌, ◌^◌, ◌++◌, [], length, take, Ok, IfSome};
+//! What most records do, as programs write them: `in`, `out`, `step`, `ack` and the read `hr f0 8` of the HPET's main counter, which
+//! are read where a line is answered, and `clock`, `hw`, `refresh` and other reads of the HPET, which are read in a call.
+ghost use Rattle.std.specs.Prelude.{◌≡◌, ◌≤◌, ◌%◌, ◌^◌, ◌++◌, [], length, take, codes, Ok, IfSome};
 ghost use lib.Lanes.{number_l};
 ghost use Rattle.trace_text.specs.Tokens.{words_of};
-ghost use Rattle.trace_text.specs.Records.{job_of, in_row, out_row, hr_row, line_row, page_row, IsJob};
+ghost use Rattle.trace_text.specs.Records.{
+  job_of,
+  in_row,
+  out_row,
+  hr_row,
+  hw_row,
+  line_row,
+  page_row,
+  IsJob,
+};
 
 use crate::jobs::act;
 use crate::records::{Body, Call, Job};
 use crate::words::Words;
-use board_types::{Access, is_hpet_place, is_line};
+use board_types::{Access, is_hpet_place};
+use irq_edges::is_line;
 use std::simd::prelude::*;
 
 /// The bytes `in ` as one word, the first of them in its lowest byte.
@@ -26,13 +36,25 @@ const OUT: u32 = 0x2074_756f;
 /// The same of the front of `clock `.
 const CLOC: u32 = 0x636f_6c63;
 
-/// What most records do, by the bytes after the counter; None also for what others do. The first four of them tell which
-/// record it is, since each has as many. How long each is is tested first: then none of its words needs a test of the line's
-/// end. It is small, so that the answer to a line is inlined in the loop over the lines.
+/// The same of the front of `refresh `.
+const REFR: u32 = 0x7266_6572;
+
+/// The same of the front of `hr f0 8`.
+const COUNTER: u32 = 0x6620_7268;
+
+/// The same of `hr `.
+const HR: u32 = 0x20_7268;
+
+/// The same of `hw `.
+const HW: u32 = 0x20_7768;
+
+/// The access that most records ask for, by the bytes after the counter; None also for what others do. The first four of
+/// them tell which it is, since each has as many. How long each is is tested first: then none of its words needs a test of the
+/// line's end. It is small, so that the answer to a line is inlined in the loop over the lines.
 #[inline(always)]
-pub(crate) fn usual_job(body: &Body, left: &[u8]) -> Option<Job>
-    ensures job { IfSome result (λ j. job_of body.now (words_of left.now) ≡ Ok j) }
-    ensures valid { IfSome result (IsJob body.now) }
+pub(crate) fn usual_access(body: &Body, left: &[u8]) -> Option<Access>
+    ensures job { IfSome result (λ a. job_of body.now (words_of left.now) ≡ Ok (Job.Ask (Call.Act a))) }
+    ensures valid { IfSome result (λ a. IsJob body.now (Job.Ask (Call.Act a))) }
 {
     if left.len() < 4 {
         return None;
@@ -58,13 +80,53 @@ pub(crate) fn usual_job(body: &Body, left: &[u8]) -> Option<Job>
             }
             usual_out(body, &mut Words::new(&left[4..]))
         }
-        CLOC => {
-            let page = after(&left[4..], b"k ")?;
-            if page.len() > 2 {
+        COUNTER => usual_counter(&left[4..]),
+        _ => None,
+    }
+}
+
+/// The page by which a record reads the clock, by the bytes after the counter; None for what others do.
+#[inline(always)]
+pub(crate) fn usual_clock(body: &Body, left: &[u8]) -> Option<u8>
+    ensures job { IfSome result (λ p. job_of body.now (words_of left.now) ≡ Ok (Job.Ask (Call.ReadClock p))) }
+    ensures valid { IfSome result (λ p. IsJob body.now (Job.Ask (Call.ReadClock p))) }
+{
+    if left.len() < 4 {
+        return None;
+    }
+    let front = first_four(left);
+    if front != CLOC {
+        return None;
+    }
+    let page = after(&left[4..], b"k ")?;
+    if page.len() > 2 {
+        return None;
+    }
+    usual_page(body, &mut Words::new(page))
+}
+
+/// What other records do that guests often ask, by the bytes after the counter; None also for what the rest do.
+#[inline(always)]
+pub(crate) fn usual_job(body: &Body, left: &[u8]) -> Option<Job>
+    ensures job { IfSome result (λ j. job_of body.now (words_of left.now) ≡ Ok j) }
+    ensures valid { IfSome result (IsJob body.now) }
+{
+    if left.len() < 4 {
+        return None;
+    }
+    let front = first_four(left);
+    if front == REFR {
+        let page = after(&left[4..], b"esh ")?;
+        return usual_refresh(body, &mut Words::new(page));
+    }
+    match front % 0x100_0000 {
+        HR => {
+            if left.len() != b"hr f0 8".len() {
                 return None;
             }
-            usual_clock(body, &mut Words::new(page))
+            usual_hr(body, &mut Words::new(&left[3..]))
         }
+        HW => usual_hw(body, &mut Words::new(&left[3..])),
         _ => None,
     }
 }
@@ -76,19 +138,6 @@ fn first_four(text: &[u8]) -> u32
     ensures { result ≡ number_l 256 (take 4 text.now) % 2 ^ 32 }
 {
     u32x1::from_le_bytes(u8x4::from_slice(text)).to_array()[0]
-}
-
-/// A read of the HPET, by the bytes after the counter; None also for what others do.
-#[inline(always)]
-pub(crate) fn usual_read(body: &Body, left: &[u8]) -> Option<Job>
-    ensures job { IfSome result (λ j. job_of body.now (words_of left.now) ≡ Ok j) }
-    ensures valid { IfSome result (IsJob body.now) }
-{
-    if left.len() != b"hr f0 8".len() {
-        return None;
-    }
-    let place = after(left, b"hr ")?;
-    usual_hr(body, &mut Words::new(place))
 }
 
 /// The bytes after others, if these come first. A loop, which the compiler unrolls for a name that it knows, where
@@ -110,41 +159,55 @@ fn after<'a>(text: &'a [u8], front: &[u8]) -> Option<&'a [u8]>
 
 /// A step, if nothing comes after its name.
 #[inline(always)]
-fn usual_step(more: &[u8]) -> Option<Job>
-    ensures job { IfSome result (λ j. (more.now ≡ []) × (j ≡ Job.Ask (Call.Act Access.Step))) }
+fn usual_step(more: &[u8]) -> Option<Access>
+    ensures job { IfSome result (λ a. (more.now ≡ []) × (a ≡ Access.Step)) }
 {
     if more.is_empty() {
-        Some(act(Access::Step))
+        Some(Access::Step)
     } else {
         None
     }
 }
 
+/// A read of the whole main counter, if this comes after the front of its name.
+#[inline(always)]
+fn usual_counter(more: &[u8]) -> Option<Access>
+    ensures job { IfSome result (λ a. (more.now ≡ codes "0 8") × (a ≡ Access.HpetRead 0xf0 8)) }
+{
+    if !after(more, b"0 8")?.is_empty() {
+        return None;
+    }
+    Some(Access::HpetRead {
+        offset: 0xf0,
+        width: 8,
+    })
+}
+
 /// The port, if it has two digits.
 #[inline(always)]
-fn usual_in(body: &Body, words: &mut Words<'_>) -> Option<Job>
-    ensures job { IfSome result (λ j. in_row body.now words.old ≡ Ok j) }
-    ensures valid { IfSome result (IsJob body.now) }
+fn usual_in(body: &Body, words: &mut Words<'_>) -> Option<Access>
+    ensures job { IfSome result (λ a. in_row body.now words.old ≡ Ok (Job.Ask (Call.Act a))) }
+    ensures valid { IfSome result (λ a. IsJob body.now (Job.Ask (Call.Act a))) }
 {
     let port = words.usual_port()?;
     if words.end().is_err() {
         return None;
     }
-    Some(act(Access::PortIn { port }))
+    Some(Access::PortIn { port })
 }
 
 /// The port and the byte, if they have two digits.
 #[inline(always)]
-fn usual_out(body: &Body, words: &mut Words<'_>) -> Option<Job>
-    ensures job { IfSome result (λ j. out_row body.now words.old ≡ Ok j) }
-    ensures valid { IfSome result (IsJob body.now) }
+fn usual_out(body: &Body, words: &mut Words<'_>) -> Option<Access>
+    ensures job { IfSome result (λ a. out_row body.now words.old ≡ Ok (Job.Ask (Call.Act a))) }
+    ensures valid { IfSome result (λ a. IsJob body.now (Job.Ask (Call.Act a))) }
 {
     let port = words.usual_port()?;
     let byte = words.two_digits()?;
     if words.end().is_err() {
         return None;
     }
-    Some(act(Access::PortOut { port, byte }))
+    Some(Access::PortOut { port, byte })
 }
 
 /// The offset and the width, if they have two digits and one, as those of the main counter have.
@@ -164,22 +227,37 @@ fn usual_hr(body: &Body, words: &mut Words<'_>) -> Option<Job>
 
 /// The line, if its number has one digit.
 #[inline(always)]
-fn usual_ack(body: &Body, words: &mut Words<'_>) -> Option<Job>
-    ensures job { IfSome result (λ j. line_row body.now Access.Ack words.old ≡ Ok j) }
-    ensures valid { IfSome result (IsJob body.now) }
+fn usual_ack(body: &Body, words: &mut Words<'_>) -> Option<Access>
+    ensures job { IfSome result (λ a. line_row body.now Access.Ack words.old ≡ Ok (Job.Ask (Call.Act a))) }
+    ensures valid { IfSome result (λ a. IsJob body.now (Job.Ask (Call.Act a))) }
 {
     let line = words.one_digit()?;
     if words.end().is_err() || line >= 0x100 || !is_line(line as u8) {
         return None;
     }
     let line = line as u8;
-    Some(act(Access::Ack { line }))
+    Some(Access::Ack { line })
 }
 
 /// The page, if its number has one digit or two.
 #[inline(always)]
-fn usual_clock(body: &Body, words: &mut Words<'_>) -> Option<Job>
-    ensures job { IfSome result (λ j. page_row body.now Call.ReadClock words.old ≡ Ok j) }
+fn usual_page(body: &Body, words: &mut Words<'_>) -> Option<u8>
+    ensures job { IfSome result (λ p. page_row body.now Call.ReadClock words.old
+        ≡ Ok (Job.Ask (Call.ReadClock p))) }
+    ensures valid { IfSome result (λ p. IsJob body.now (Job.Ask (Call.ReadClock p))) }
+{
+    let page = words.usual_dec()?;
+    if words.end().is_err() || page >= u64::from(body.cpus) {
+        return None;
+    }
+    let page = page as u8;
+    Some(page)
+}
+
+/// The same of a refresh.
+#[inline(always)]
+fn usual_refresh(body: &Body, words: &mut Words<'_>) -> Option<Job>
+    ensures job { IfSome result (λ j. page_row body.now (λ p. Call.Act (Access.Refresh p)) words.old ≡ Ok j) }
     ensures valid { IfSome result (IsJob body.now) }
 {
     let page = words.usual_dec()?;
@@ -187,5 +265,29 @@ fn usual_clock(body: &Body, words: &mut Words<'_>) -> Option<Job>
         return None;
     }
     let page = page as u8;
-    Some(Job::Ask(Call::ReadClock { page }))
+    Some(act(Access::Refresh { page }))
+}
+
+/// The offset, the width and the value, if the width has one digit.
+#[inline(always)]
+fn usual_hw(body: &Body, words: &mut Words<'_>) -> Option<Job>
+    ensures job { IfSome result (λ j. hw_row body.now words.old ≡ Ok j) }
+    ensures valid { IfSome result (IsJob body.now) }
+{
+    let offset = words.usual_hex()?;
+    let width = words.one_digit()?;
+    let value = words.usual_hex()?;
+    if words.end().is_err() || offset >= 0x1_0000 || width >= 0x100 {
+        return None;
+    }
+    let access = Access::HpetWrite {
+        offset: offset as u16,
+        width: width as u8,
+        value,
+    };
+    if access.legal(body.cpus, body.format) {
+        Some(act(access))
+    } else {
+        None
+    }
 }

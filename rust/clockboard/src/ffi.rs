@@ -2,7 +2,7 @@
 //! The calls of the archive, as `c/clockboard.h` declares them.
 
 /// `CLOCKBOARD_ABI` of the header.
-pub const ABI: u32 = 8;
+pub const ABI: u32 = 9;
 
 /// `CLOCKBOARD_SIZE` of the header.
 pub const SIZE: usize = 9424;

@@ -1,7 +1,5 @@
 -- What calls ask and leave on the way of an access; private contracts alone cite this.
-use Rattle.std.specs.Prelude.{◌≡◌, ℕ, ◌+◌, ◌-◌, ◌<◌, ◌≤◌, IsTrue, IsSome, IfSome, None, List, [], ◌++◌, length}
-use Rattle.std.specs.List.{All}
-use Rattle.irq_edges.specs.Lines.{IsOfLine}
+use Rattle.std.specs.Prelude.{◌≡◌, ℕ, ◌+◌, ◌-◌, ◌<◌, ◌≤◌, IsTrue, IfSome, List, [], ◌++◌, length}
 use Rattle.irq_edges.specs.declared.bursts.Burst.{Burst}
 use Rattle.irq_edges.specs.declared.edges.Edge.{Edge}
 use Rattle.irq_edges.specs.declared.edges.TheConstants.{EDGE_PLACES}
@@ -11,11 +9,10 @@ use Rattle.board_types.specs.Legal.{is_legal}
 use Rattle.board_types.specs.declared.access.Access.{Access}
 use Rattle.board_types.specs.declared.parts.BoardParts.{BoardParts}
 use Rattle.board_types.specs.declared.parts.TheConstants.{LAST_VERSION, MOST_ACCESSES}
-use Rattle.board_types.specs.declared.reply.Reply.{Reply}
 use Rattle.board_types.specs.declared.reply.Value.{Value}
-use Rattle.board_core.specs.Access.{ran_to, bursts_to, after_run, value_at, own_edges, reply_of, after_access}
+use Rattle.board_core.specs.Access.{ran_to, bursts_to, after_run, value_at, own_edges}
 use Rattle.board_core.specs.Apics.{apics_in, tscs_by_time}
-use Rattle.board_core.specs.Refusals.{raised_version, refusal_of}
+use Rattle.board_core.specs.Refusals.{raised_version}
 use Rattle.board_core.specs.Time.{HasTime, now_of, time_of_access}
 
 -- a run may be done to the time `end` of an access at count h: six places are free for its edges, and
@@ -48,23 +45,6 @@ pub record IsTaken (b : BoardParts) (processor h : ℕ) (a : Access) : Type 0 wh
   pub accesses : b.accesses < MOST_ACCESSES
   pub version : IfSome (raised_version b.processors b.wall_version b.hv.version processor a)
       (λ version. version < LAST_VERSION)
-
--- such a board took access a of processor cpu at count h: board and reply are then `after` and `told`
-pub record HasTaken (b : BoardParts) (cpu h : ℕ) (a : Access) (after : BoardParts) (told : Reply)
-    : Type 0 where
-  pub taken : refusal_of b cpu h a ≡ None
-  pub reply : told ≡ reply_of b cpu h a
-  pub state : after ≡ after_access b cpu h a
-  pub of_lines : All IsOfLine told.edges
-  pub few_run : length (ran_to b h).edges ≤ 6
-  pub few : length told.edges ≤ length (ran_to b h).edges + 12
-
--- or refused it, and is what it was, as the reply is
-pub record IsRefused (b : BoardParts) (cpu h : ℕ) (a : Access) (after : BoardParts)
-    (before told : Reply) : Type 0 where
-  pub refused : IsSome (refusal_of b cpu h a)
-  pub unchanged : after ≡ b
-  pub untouched : told ≡ before
 
 -- what it reads of such a board, and its own edges after those that the list had
 pub record HasTold (b : BoardParts) (cpu h : ℕ) (a : Access) (read : Value) (had told : List Edge)

@@ -1,5 +1,7 @@
 -- Words of the closed form of many pulses alone. Table defines what a pulse does.
 use Rattle.std.specs.Prelude.{
+  ◌≡◌,
+  ◌≤◌,
   ℕ,
   ◌+◌,
   ◌-◌,
@@ -11,14 +13,15 @@ use Rattle.std.specs.Prelude.{
   ◌&&◌,
   not,
   Bool,
+  true,
   false,
   Option,
   Some,
   None,
   if◌then◌else◌,
 }
-use Rattle.pit_counter.specs.Mode.{mode_of, is_rate, is_square, is_periodic}
-use Rattle.pit_counter.specs.Count.{modulus, meant_count, loaded_count, is_odd_square}
+use Rattle.pit_counter.specs.Mode.{mode_of, is_rate, is_square}
+use Rattle.pit_counter.specs.Count.{modulus, meant_count}
 use Rattle.pit_counter.specs.declared.table.Effect.{Effect}
 use Rattle.pit_counter.specs.declared.table.Effect.TheVariants.{
   Load,
@@ -38,6 +41,15 @@ step_of DownToLow = 1
 step_of DownByTwo = 2
 step_of DownToStrobe = 1
 step_of (Stand level) = 0
+
+-- a pulse with this effect divides: mode 2 alone has it
+abbrev pub divides : Effect → Bool
+divides (Load level) = false
+divides DownToHigh = false
+divides DownToLow = true
+divides DownByTwo = false
+divides DownToStrobe = false
+divides (Stand level) = false
 
 -- a pulse with this effect changes nothing
 abbrev pub is_still : Effect → Bool → Bool
@@ -73,22 +85,19 @@ glided_count bits ce down = (ce + modulus bits - down % modulus bits) % modulus 
 unfoldable pub glided : Effect → ℕ → CounterParts → CounterParts
 glided e n c = record c { ce = glided_count c.bits c.ce (step_of e * n) }
 
--- the counter is as a load leaves it in modes 2 and 3, with GATE high: a period begins
-unfoldable pub is_reloaded : CounterParts → Bool
-is_reloaded c =
-    is_periodic (mode_of c.bits)
-    && c.gate
-    && c.live
-    && c.out
-    && not c.null
-    && not c.trig
-    && not c.armed
-    && c.ce == loaded_count c.bits c.cr
-    && (if is_odd_square c.bits c.cr then c.odd else not c.odd)
+-- mode 2 counts with GATE high ..
+abbrev pub is_rate_running : CounterParts → Bool
+is_rate_running c = is_rate (mode_of c.bits) && c.gate && c.live && not c.trig
 
--- mode 2 counts with GATE high, on to the load after a count of 1
+-- .. on to the load after a count of 1
 unfoldable pub is_dividing : CounterParts → Bool
-is_dividing c = is_rate (mode_of c.bits) && c.gate && c.live && not c.trig && not (c.ce == 1)
+is_dividing c = is_rate_running c && not (c.ce == 1)
+
+-- .. by this period
+pub record DividesBy (n : ℕ) (c : CounterParts) : Type 0 where
+  pub counts : is_dividing c ≡ true
+  pub period : n ≡ meant_count c.bits c.cr
+  pub short : n ≤ modulus c.bits
 
 -- the same so many pulses before its next load, the last of them with OUT low
 abbrev pub with_left : ℕ → CounterParts → CounterParts

@@ -1,4 +1,4 @@
-use Rattle.std.proofs.Common.{◌≡◌, ℕ, Bool, true, false, not, Option, Some, None, refl, ap, sym, ◌∙◌}
+use Rattle.std.proofs.Common.{◌≡◌, ℕ, ◌&&◌, Bool, true, false, not, Option, Some, None, refl, ap, sym, ◌∙◌}
 use Rattle.std.proofs.lemmas.Bool.{true≢false}
 use Rattle.rtc_registers.specs.declared.TheConstants.{RTC_HZ}
 use Rattle.clk_units.specs.Events.{first_at}
@@ -11,18 +11,20 @@ unfolding either_from
 alone None = refl
 alone (Some t) = refl
 
-off : (b : Bool) → not b ≡ true → false ≡ b
-off false h = refl
-off true h = absurd (true≢false (sym h))
+-- .. which are off
+both_off : (a b : Bool) → (not a && not b) ≡ true → (false ≡ a) × (false ≡ b)
+both_off false false h = (refl, refl)
+both_off true b h = absurd (true≢false (sym h))
+both_off false true h = absurd (true≢false (sym h))
 
-pub returns-then-not-shown-2 : goal.returns-then-not-shown-2
-returns-then-not-shown-2 c =
+pub returns-then-is_tick_line : goal.returns-then-is_tick_line
+returns-then-is_tick_line c =
     let from : ℕ = c.args.span.from in
     let alarm : Option ℕ = first_at RTC_HZ from c.args.events.now.first_alarm in
     let update : Option ℕ = first_at RTC_HZ from c.args.events.now.cycle.first_update in
+    let off : (false ≡ c.args.shown.aie) × (false ≡ c.args.shown.uie) =
+    both_off c.args.shown.aie c.args.shown.uie (sym c.is_tick_line.ensures ∙ c.if-is_tick_line.true) in
     alone c.args.line
-    ∙ ap (λ (b : Bool). either_from c.args.line (either_from (flag_from b c.args.shown.af from alarm) (flag_from false c.args.shown.uf from update)))
-    (off c.args.shown.aie c.if-not-shown.true)
+    ∙ ap (λ (b : Bool). either_from c.args.line (either_from (flag_from b c.args.shown.af from alarm) (flag_from false c.args.shown.uf from update))) off.0
     ∙ ap (λ (b : Bool). either_from c.args.line
-    (either_from (flag_from c.args.shown.aie c.args.shown.af from alarm) (flag_from b c.args.shown.uf from update)))
-    (off c.args.shown.uie c.if-not-shown-2.true)
+    (either_from (flag_from c.args.shown.aie c.args.shown.af from alarm) (flag_from b c.args.shown.uf from update))) off.1

@@ -11,8 +11,8 @@ use Rattle.clockboard_c.proofs.Telling.{says-passed}
 use Rattle.clockboard_c.proofs.Kept.{runs-caught, with_state, passed-next, passed-answered}
 use Rattle.clockboard_c.proofs.call.count.Goals as goal
 
-pub now_after-now_ns-requires-clause-same : goal.now_after-now_ns-requires-clause-same
-now_after-now_ns-requires-clause-same c not_later = c.board.invariant.time ∙ sym (c.count-later.ensures.now not_later)
+pub move_now-now_ns-requires-clause-same : goal.move_now-now_ns-requires-clause-same
+move_now-now_ns-requires-clause-same c not_later = c.board.invariant.time ∙ sym (c.count-later.ensures.now not_later)
 
 pub invariant_of-board : goal.invariant_of-board
 invariant_of-board c =
@@ -24,7 +24,7 @@ invariant_of-board c =
           (c.count-later.ensures.passed c.args.cpu c.args.access c.requires.passive) c.board.inside.next
           (runs-caught c.board.inside.state c.board.inside.lag c.cpus.ensures.joined) c.board.invariant.next
           ∙ ap (kept_of c.board.inside.next.known) (sym left);
-      time = c.now_after-now_ns.ensures ∙ sym (now-left c.args.access next) ∙ ap now_of (sym left);
+      time = c.move_now-now_ns.ensures.kept ∙ c.move_now-now_ns.ensures.value ∙ sym (now-left c.args.access next) ∙ ap now_of (sym left);
     }
 
 pub returns : goal.returns
@@ -33,15 +33,15 @@ returns c = record {
       subst (λ (b : CallerBoard). IsReply c.args.reply.now c.put_head.new.self (told_by b.state c.args.cpu c.args.host c.args.access))
       (ap seen c.board.view_is)
       (says-passed _ _ (caught_up c.board.inside.state c.board.inside.lag) _ c.args.cpu c.args.host c.args.access c.count-later.new.self.accesses
-      c.now_after-now_ns.result c.take_passive-value.result
-      (c.count-later.ensures.passed c.args.cpu c.args.access c.requires.passive) c.now_after-now_ns.ensures
+      c.move_now-now_ns.result c.take_passive-value.result
+      (c.count-later.ensures.passed c.args.cpu c.args.access c.requires.passive) c.move_now-now_ns.ensures.value
       (c.take_passive-value.ensures.value c.args.cpu c.args.host)
       (subst
       (λ (n : ℕ). IsReply c.args.reply.now c.put_head.new.self
-      (without_edges OK n c.now_after-now_ns.result (value_words c.take_passive-value.result))) c.accesses-number.ensures
+      (without_edges OK n c.move_now-now_ns.result (value_words c.take_passive-value.result))) c.accesses-number.ensures
       (subst
       (λ (ws : List ℕ). IsReply c.args.reply.now c.put_head.new.self
-      (without_edges OK c.accesses-number.result c.now_after-now_ns.result ws)) c.value_words.ensures c.put_head.ensures)));
+      (without_edges OK c.accesses-number.result c.move_now-now_ns.result ws)) c.value_words.ensures c.put_head.ensures)));
   board =
       ap (with_state c.board.inside.seal c.board.inside.shared c.board.inside.next.known) c.take_passive-value.ensures.state
       ∙ passed-answered (caught_up c.board.inside.state c.board.inside.lag) _ c.args.cpu c.args.host c.args.access _ c.requires.passive

@@ -1,7 +1,5 @@
 use Rattle.std.proofs.Common.{refl, ap, sym, ◌∙◌}
-use Rattle.board_core.specs.Access.{after_run}
 use Rattle.board_core.specs.Upgrade.{upgraded_to}
-use Rattle.board_core.proofs.Joins.{after_run-zero}
 use Rattle.board_core.proofs.LazySteps.{IsLazy-none}
 use Rattle.clockboard_c.specs.Kept.{LaggingBoard}
 use Rattle.clockboard_c.proofs.Kept.{changed, settled}
@@ -20,4 +18,4 @@ returns c =
     (upgraded_to c.args.format) c.args.board.now (ap (λ (b : LaggingBoard). b.seal) c.board.view_is)
     (ap (λ (b : LaggingBoard). b.shared) c.board.view_is)
     (ap (λ (b : LaggingBoard). b.state) c.board.view_is
-    ∙ sym (ap (after_run c.args.board.now.state) c.requires.up ∙ after_run-zero c.args.board.now.state)) c.upgraded-board-inside.ensures.state
+    ∙ sym c.requires.up) c.upgraded-board-inside.ensures.state

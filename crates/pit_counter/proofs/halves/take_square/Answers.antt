@@ -56,7 +56,7 @@ overflow_add-result c =
     omega (
       arith,
       div-le_self (c.args.n - c.to_rise-first.result) c.meant_count-period.result,
-      (ending-square p (Square-from p c.requires.valid c.requires.counts) (omega (arith, period.greatest, period.value))).some,
+      (ending-square p (Square-from p c.requires.valid c.requires.counts) (omega (arith, period.greatest, period.value))).first.some,
       c.to_rise-first.ensures,
       c.if-n-first.false,
     )

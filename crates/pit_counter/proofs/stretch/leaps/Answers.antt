@@ -2,7 +2,6 @@ use Rattle.std.proofs.Common.{◌+◌, ℕ, sym, arith, subst, zero-le}
 use Rattle.pit_counter.specs.Parts.{IsCounter}
 use Rattle.pit_counter.specs.declared.parts.CounterParts.{CounterParts}
 use Rattle.pit_counter.specs.private.Taken.{HasTaken}
-use Rattle.pit_counter.proofs.Keeps.{IsCounter-ce}
 use Rattle.pit_counter.proofs.Times.{pulsed_times-zero, rises_in-zero, rises_in-le}
 use Rattle.pit_counter.proofs.Joins.{HasTaken-joined, IfSome-first, IsCounter-pulsed_times}
 use Rattle.pit_counter.proofs.stretch.leaps.Goals as goal
@@ -17,9 +16,6 @@ loop-pulses-init c = record {
     first = rises_in-zero c.args.p.now;
   };
 }
-
-pub next_leap-next-requires-clause-below : goal.next_leap-next-requires-clause-below
-next_leap-next-requires-clause-below c = IsCounter-ce c.loop-pulses.parts c.loop-pulses.invariant.valid
 
 pub joined-rises-requires-clause-fits : goal.joined-rises-requires-clause-fits
 joined-rises-requires-clause-fits c =

@@ -16,10 +16,11 @@ use Rattle.std.proofs.Common.{
 }
 use Rattle.clk_units.specs.Events.{IsFirst, first_more}
 use Rattle.clk_units.proofs.Events.{IsFirst-more}
-use Rattle.pit_counter.specs.Table.{pulsed, pulsed_times, has_risen, rises_next, rises_in}
+use Rattle.pit_counter.specs.Table.{affected, pulsed, pulsed_times, has_risen, rises_next, rises_in}
 use Rattle.pit_counter.specs.private.Stretch.{quiet_for, glided}
 use Rattle.pit_counter.specs.declared.table.Effect.{Effect}
 use Rattle.pit_counter.specs.declared.parts.CounterParts.{CounterParts}
+use Rattle.pit_counter.proofs.Keeps.{IsCounter-ce}
 use Rattle.pit_counter.proofs.Times.{
   pulsed_times-zero,
   pulsed_times-suc,
@@ -29,18 +30,21 @@ use Rattle.pit_counter.proofs.Times.{
 use Rattle.pit_counter.proofs.Quiet.{next_effect, pulsed_times-glided, rises_in-glided}
 use Rattle.pit_counter.proofs.stretch.next_leap.Goals as goal
 
+pub glided-requires : goal.glided-requires
+glided-requires c = IsCounter-ce c.args.p c.requires.valid
+
 pub returns-then-quiet-gt0 : goal.returns-then-quiet-gt0
 returns-then-quiet-gt0 c =
     let quiet : c.quiet_for.result ≡ quiet_for (next_effect c.args.p) c.args.p = c.quiet_for.ensures
     ∙ ap (λ (e : Effect). quiet_for e c.args.p) c.next_effect-effect.ensures in
     let within : c.min-quiet.result ≤ quiet_for (next_effect c.args.p) c.args.p = omega (arith, c.min-quiet.ensures) in
-    let none = rises_in-glided c.args.p c.min-quiet.result c.requires.below within in
+    let none = rises_in-glided c.args.p c.min-quiet.result (IsCounter-ce c.args.p c.requires.valid) within in
     record {
       forward = search rules;
       within = omega (arith, c.min-quiet.ensures);
       taken = record {
         state = c.glided.ensures ∙ ap (λ (e : Effect). glided e c.min-quiet.result c.args.p) c.next_effect-effect.ensures
-            ∙ sym (pulsed_times-glided c.args.p c.min-quiet.result c.requires.below within);
+            ∙ sym (pulsed_times-glided c.args.p c.min-quiet.result (IsCounter-ce c.args.p c.requires.valid) within);
         count = sym none;
         first = none;
       };
@@ -54,9 +58,15 @@ single_rises : (p parts : CounterParts) (rose : Bool) → parts ≡ pulsed p →
 unfolding rises_next
 single_rises p parts rose e f = ap rises_next (pulsed_times-zero p) ∙ ap (has_risen p) (sym e) ∙ sym f
 
+-- by its effect, that is known already
+by_effect : (p parts : CounterParts) (e : Effect) → parts ≡ affected e p → e ≡ next_effect p → parts ≡ pulsed p
+unfolding pulsed
+by_effect p parts e h f = h ∙ ap (λ (x : Effect). affected x p) f
+
 pub returns : goal.returns
 returns c =
-    let test = single_rises c.args.p c.pulsed-parts.result c.has_risen-rose.result c.pulsed-parts.ensures c.has_risen-rose.ensures in
+    let parts = by_effect c.args.p c.affected-parts.result c.next_effect-effect.result c.affected-parts.ensures c.next_effect-effect.ensures in
+    let test = single_rises c.args.p c.affected-parts.result c.has_risen-rose.result parts c.has_risen-rose.ensures in
     let none = rises_in-zero c.args.p in
     let first : first_more None 0 (rises_next (pulsed_times 0 c.args.p)) ≡ c.with_pulse.result.first = ap (first_more None 0) test
     ∙ sym c.with_pulse.ensures.first in
@@ -64,7 +74,7 @@ returns c =
       forward = search rules;
       within = omega (arith, c.requires.some);
       taken = record {
-        state = c.pulsed-parts.ensures ∙ sym (single c.args.p);
+        state = parts ∙ sym (single c.args.p);
         count = c.with_pulse.ensures.count
             ∙ sym (rises_in-suc c.args.p 0 ∙ ap (λ (b : Bool). cond b (suc (rises_in c.args.p 0)) (rises_in c.args.p 0)) test
             ∙ ap (λ (n : ℕ). cond c.has_risen-rose.result (suc n) n) none);

@@ -1,4 +1,4 @@
-use Rattle.std.proofs.Common.{◌≡◌, ◌+◌, refl, ◌-◌, ◌*◌, ◌≤◌, Some, ap, ◌∙◌, arith}
+use Rattle.std.proofs.Common.{◌≡◌, ◌+◌, ◌-◌, ◌*◌, ◌≤◌, Some, ap, ◌∙◌, arith}
 use Rattle.clk_units.specs.Events.{IsFirst}
 use Rattle.rtc_calendar.specs.Updates.{updated_times}
 use Rattle.rtc_calendar.specs.Alarms.{matches_in}
@@ -8,7 +8,6 @@ use Rattle.rtc_cycle.proofs.Times.{updates_in-apart}
 use Rattle.rtc_registers.specs.declared.parts.RtcParts.{RtcParts}
 use Rattle.rtc_registers.specs.Registers.{divider_of, form_of, time_of, alarm_of}
 use Rattle.rtc_registers.proofs.Times.{moved-is, flags_in-is, is_some-match, IsFirst-alarms_in}
-use Rattle.rtc_registers.proofs.Times.{rtc_pulsed_times-no_event, rtc_pulsed_times-ticked, alarms_in-no_update}
 use Rattle.rtc_registers.proofs.stretch.take_pulses.Goals as goal
 
 pub update_pulse-requires : goal.update_pulse-requires
@@ -24,22 +23,8 @@ update_pulse-requires c = λ f k is_f is_k.
     updates_in-apart (divider_of r) c.requires.divider c.args.n f k first match.0 (omega (arith, match.1, updates)) in
     (match.0, omega (arith, apart.0, c.ranges.n.fits))
 
-pub returns-then-n-eq0 : goal.returns-then-n-eq0
-returns-then-n-eq0 c =
-    let none : c.args.n ≡ 0 = c.if-n-eq0.true in
-    rw none (record {
-      state = refl;
-      ticks = refl;
-      few_ticks = omega arith;
-      first_tick = refl;
-      updates = refl;
-      few_updates = omega arith;
-      first_update = refl;
-      first_alarm = refl;
-    })
-
-pub returns-then-cycle-gt0 : goal.returns-then-cycle-gt0
-returns-then-cycle-gt0 c =
+pub returns : goal.returns
+returns c =
     let r : RtcParts = c.args.r.now in
     let divider : c.parts.result ≡ pulsed_times c.args.n (divider_of r) =
     c.parts.ensures.value ∙ c.pulses-cycle.ensures.state ∙ ap (pulsed_times c.args.n) c.divider-divider.ensures in
@@ -64,52 +49,4 @@ returns-then-cycle-gt0 c =
       first_update = rw c.divider-divider.ensures at c.pulses-cycle.ensures.first_update;
       first_alarm =
           rw c.update_pulse.ensures (IsFirst-alarms_in c.args.n r c.requires c.pulses-cycle.result.first_update c.take_events-matched.result first match);
-    }
-
-pub returns-then-cycle-gt0-2 : goal.returns-then-cycle-gt0-2
-returns-then-cycle-gt0-2 c =
-    let r : RtcParts = c.args.r.now in
-    let divider : c.parts-then-cycle-gt0-2.result ≡ pulsed_times c.args.n (divider_of r) =
-    c.parts-then-cycle-gt0-2.ensures.value ∙ c.pulses-cycle.ensures.state ∙ ap (pulsed_times c.args.n) c.divider-divider.ensures in
-    let ticks : c.pulses-cycle.result.ticks ≡ ticks_in (divider_of r) c.args.n =
-    c.pulses-cycle.ensures.ticks ∙ ap (λ (d : DividerParts). ticks_in d c.args.n) c.divider-divider.ensures in
-    let updates : c.pulses-cycle.result.updates ≡ updates_in (divider_of r) c.args.n =
-    c.pulses-cycle.ensures.updates ∙ ap (λ (d : DividerParts). updates_in d c.args.n) c.divider-divider.ensures in
-    record {
-      state =
-          c.take_ticks.ensures
-          ∙ rtc_pulsed_times-ticked c.args.n r c.requires c.parts-then-cycle-gt0-2.result divider
-          (omega (arith, ticks, c.if-cycle-gt0-2.true)) (omega (arith, updates, c.if-cycle-gt0.false));
-      ticks = ticks;
-      few_ticks = c.pulses-cycle.ensures.few_ticks;
-      first_tick = rw c.divider-divider.ensures at c.pulses-cycle.ensures.first_tick;
-      updates = updates;
-      few_updates = c.pulses-cycle.ensures.few_updates;
-      first_update = rw c.divider-divider.ensures at c.pulses-cycle.ensures.first_update;
-      first_alarm =
-          alarms_in-no_update c.args.n r c.requires (omega (arith, updates, c.if-cycle-gt0.false));
-    }
-
-pub returns-else-cycle-gt0-2 : goal.returns-else-cycle-gt0-2
-returns-else-cycle-gt0-2 c =
-    let r : RtcParts = c.args.r.now in
-    let divider : c.parts-else-cycle-gt0-2.result ≡ pulsed_times c.args.n (divider_of r) =
-    c.parts-else-cycle-gt0-2.ensures.value ∙ c.pulses-cycle.ensures.state ∙ ap (pulsed_times c.args.n) c.divider-divider.ensures in
-    let ticks : c.pulses-cycle.result.ticks ≡ ticks_in (divider_of r) c.args.n =
-    c.pulses-cycle.ensures.ticks ∙ ap (λ (d : DividerParts). ticks_in d c.args.n) c.divider-divider.ensures in
-    let updates : c.pulses-cycle.result.updates ≡ updates_in (divider_of r) c.args.n =
-    c.pulses-cycle.ensures.updates ∙ ap (λ (d : DividerParts). updates_in d c.args.n) c.divider-divider.ensures in
-    record {
-      state =
-          c.move_divider.ensures
-          ∙ rtc_pulsed_times-no_event c.args.n r c.requires c.parts-else-cycle-gt0-2.result divider
-          (omega (arith, ticks, c.if-cycle-gt0-2.false)) (omega (arith, updates, c.if-cycle-gt0.false));
-      ticks = ticks;
-      few_ticks = c.pulses-cycle.ensures.few_ticks;
-      first_tick = rw c.divider-divider.ensures at c.pulses-cycle.ensures.first_tick;
-      updates = updates;
-      few_updates = c.pulses-cycle.ensures.few_updates;
-      first_update = rw c.divider-divider.ensures at c.pulses-cycle.ensures.first_update;
-      first_alarm =
-          alarms_in-no_update c.args.n r c.requires (omega (arith, updates, c.if-cycle-gt0.false));
     }

@@ -9,8 +9,8 @@ use Rattle.board_core.specs.View.{board_parts_of}
 use Rattle.board_core.proofs.Joins.{IsQuiet-to}
 use Rattle.board_core.proofs.board.BoardState.quiet_before.Goals as goal
 
-pub returns-in-Ok : goal.returns-in-Ok
-returns-in-Ok c some =
+pub returns-in-Ok-clause-quiet : goal.returns-in-Ok-clause-quiet
+returns-in-Ok-clause-quiet c some =
     let b : BoardParts = board_parts_of c.self.inside in
     let now : c.self.inside.time_ns ≡ now_of b = c.self.invariant.time in
     let time : c.in-Ok.ns ≡ time_at b.anchor c.last_count-last.result = c.in-Ok.ensures.ok.value in

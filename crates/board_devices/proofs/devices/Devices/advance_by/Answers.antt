@@ -53,6 +53,18 @@ use Rattle.board_devices.proofs.Still.{QuietFrom, levels-still, flag-again}
 use Rattle.board_devices.proofs.devices.Devices.advance_by.Goals as goal
 use Rattle.board_devices.proofs.devices.Devices.advance_by.Goals.{After-pulses-events}
 
+-- first events come in the stretch
+inside : (count : ℕ → ℕ) (n most : ℕ) (first : Option ℕ) → n ≤ most → IsFirst count n first → IfSome first (λ j. j ≤ most)
+inside count n most None few h = tt
+inside count n most (Some j) few h = omega (arith, few, h.1)
+
+-- no timer matched from the reach on
+pub finds_up-requires : goal.finds_up-requires
+finds_up-requires c = record { places = c.pulses-reach.ensures.places; none = c.pulses-reach.ensures.reach }
+
+pub take_matches-requires-clause-reach : goal.take_matches-requires-clause-reach
+take_matches-requires-clause-reach c = record { places = c.pulses-reach.ensures.places; none = c.pulses-reach.ensures.reach }
+
 -- there is room for the ticks
 pub run_pit-pit_up-requires-clause-room : goal.run_pit-pit_up-requires-clause-room
 run_pit-pit_up-requires-clause-room c =
@@ -72,7 +84,7 @@ pub run_timers-requires : goal.run_timers-requires
 run_timers-requires c = record {
   order = c.requires.stretch.order;
   range = c.requires.stretch.range;
-  inside = λ k less. rw c.requires.pulses.hpet at (c.pulse_hpet-reach.ensures.within k);
+  inside = λ k less. rw c.requires.pulses.hpet at (inside (matches_of k c.self.inside.hpet) c.args.pulses.hpet c.args.pulses.hpet (timer_matches c.pulses-reach.new.matches k).first (omega arith) (c.pulses-reach.ensures.first k));
   room = λ k less.
       let place : k + 2 ≡ suc (suc k) = omega arith in
       let room : (line_at (k + 2) (parts_of c.self.inside)).counts.due + (c.args.to - c.args.from) < 2 ^ 63 =
@@ -80,7 +92,7 @@ run_timers-requires c = record {
       let same : (get_or c.run_clock-rtc_up.new.lines (k + 2) no_line).counts.due ≡ (line_at (k + 2) (parts_of c.self.inside)).counts.due =
       ap (λ (l : TickParts). l.counts.due) (c.run_clock-rtc_up.ensures.others (k + 2) (λ e. absurd (omega (arith, e)))
       ∙ c.run_pit-pit_up.ensures.others (k + 2) (λ e. absurd (omega (arith, e)))) in
-      omega (arith, room, same, c.pulse_hpet-reach.ensures.few k, c.requires.pulses.few_hpet);
+      omega (arith, room, same, c.pulses-reach.ensures.few k, c.requires.pulses.few_hpet);
 }
 
 -- what is known where the devices have had their pulses
@@ -107,7 +119,7 @@ heard_counts c on = heard-pie c.self.inside.rtc (first (pie_of c.self.inside.rtc
     first false b h = absurd (true≢false (sym h))
 
 brought : (c : After-pulses-events)
-    → Brought (parts_of c.self.inside) c.args.from (c.args.to - c.args.from) c.pulses-rises.result c.pulses-events.result c.pulse_hpet-reach.new.matches
+    → Brought (parts_of c.self.inside) c.args.from (c.args.to - c.args.from) c.pulses-rises.result c.pulses-events.result c.pulses-reach.new.matches
 brought c = record {
   pit_count = rw c.requires.pulses.pit at c.pulses-rises.ensures.count;
   pit_first = rw c.requires.pulses.pit at c.pulses-rises.ensures.first;
@@ -115,14 +127,9 @@ brought c = record {
   rtc_first = λ on. rw (heard c (heard_counts c on)) at c.pulses-events.ensures.first_tick;
   update_first = λ on. rw (heard c (heard-uie c.self.inside.rtc on)) at c.pulses-events.ensures.first_update;
   alarm_first = λ on. rw (heard c (heard-aie c.self.inside.rtc on)) at c.pulses-events.ensures.first_alarm;
-  timer_count = rw c.requires.pulses.hpet at c.pulse_hpet-reach.ensures.count;
-  timer_first = rw c.requires.pulses.hpet at c.pulse_hpet-reach.ensures.first;
+  timer_count = λ k on. rw c.requires.pulses.hpet at (c.pulses-reach.ensures.count k);
+  timer_first = λ k on. rw c.requires.pulses.hpet at (c.pulses-reach.ensures.first k);
 }
-
--- first events come in the stretch
-inside : (count : ℕ → ℕ) (n most : ℕ) (first : Option ℕ) → n ≤ most → IsFirst count n first → IfSome first (λ j. j ≤ most)
-inside count n most None few h = tt
-inside count n most (Some j) few h = omega (arith, few, h.1)
 
 few_heard : (c : After-pulses-events) → c.args.pulses.rtc ≤ pulses_from RTC_HZ c.args.from (c.args.to - c.args.from)
 few_heard c = omega (arith, c.requires.pulses.rtc, heard-few c.args.from c.args.to c.args.self.now.rtc)
@@ -149,7 +156,7 @@ ahead c = (c.args.from / c.self.inside.slew_ns + 1) * c.self.inside.slew_ns - c.
 
 known : (c : After-pulses-events)
     → Known (parts_of c.self.inside) c.args.from (c.args.to - c.args.from) (ahead c)
-    c.pulses-rises.result c.pulses-events.result c.pulse_hpet-reach.new.matches (pit_of c) (rtc_of c)
+    c.pulses-rises.result c.pulses-events.result c.pulses-reach.new.matches (pit_of c) (rtc_of c)
 unfolding ahead
 known c = record {
   sound = sound c;
@@ -167,8 +174,8 @@ end_is : (c : After-pulses-events) → c.args.to ≡ c.args.from + (c.args.to - 
 end_is c = omega (arith, c.requires.stretch.order)
 
 hpet_is : (c : After-pulses-events)
-    → c.pulse_hpet-reach.new.hpet ≡ hpet_pulsed_times (pulses_from HPET_HZ c.args.from (c.args.to - c.args.from)) c.self.inside.hpet
-hpet_is c = rw c.requires.pulses.hpet at c.pulse_hpet-reach.ensures.state
+    → c.pulses-reach.new.self ≡ hpet_pulsed_times (pulses_from HPET_HZ c.args.from (c.args.to - c.args.from)) c.self.inside.hpet
+hpet_is c = rw c.requires.pulses.hpet at c.pulses-reach.ensures.state
 
 -- the clock has the pulses that are heard
 taken : (c : After-pulses-events) → c.pulses-events.new.self
@@ -187,7 +194,7 @@ b_heard : (c : After-pulses-events) → register_b (heard_rtc c) ≡ register_b 
 b_heard c = register_b-rtc_pulsed_times (heard_pulses c.args.from c.args.to c.self.inside.rtc) c.self.inside.rtc (sound c).rtc
 
 -- what is left to it changes nothing that joins the devices
-unpassed : (c : After-pulses-events) (d : DeviceParts) → d.hpet ≡ c.pulse_hpet-reach.new.hpet
+unpassed : (c : After-pulses-events) (d : DeviceParts) → d.hpet ≡ c.pulses-reach.new.self
     → register_b d.rtc ≡ register_b c.self.inside.rtc → IsRtc d.rtc
     → IsDevices (passed (left_pulses c.args.from c.args.to c.self.inside.rtc) d) → IsDevices d
 unpassed c d hpet b valid joined = by_test (is_unheard c.self.inside.rtc) refl
@@ -226,16 +233,16 @@ first_line c =
 
 ends : (c : goal.After-run_timers) → (k : ℕ) → k < 10 → get_or c.run_timers.new.lines k no_line
     ≡ end_of c.next_point-point.result c.args.to
-    (ticks_at c.args.from c.self.inside.hpet c.pulse_hpet-reach.new.matches (pit_of (pulsed c)) (rtc_of (pulsed c)) k) (line_at k (parts_of c.self.inside))
+    (ticks_at c.args.from c.self.inside.hpet c.pulses-reach.new.matches (pit_of (pulsed c)) (rtc_of (pulsed c)) k) (line_at k (parts_of c.self.inside))
 ends c zero less =
     c.run_timers.ensures.lines.front 0 (omega arith) ∙ c.run_clock-rtc_up.ensures.others 0 (λ e. absurd (omega (arith, e))) ∙ c.run_pit-pit_up.ensures.here
 ends c (suc zero) less = c.run_timers.ensures.lines.front 1 (omega arith) ∙ first_line c
 ends c (suc (suc k)) less = ends-timers (known (pulsed c)) c.next_point-point.result c.args.to c.run_clock-rtc_up.new.lines c.run_timers.new.lines (behind c)
     (λ j inside. subst (λ (h : HpetParts). get_or c.run_timers.new.lines (j + 2) no_line ≡ end_of c.next_point-point.result c.args.to
-    (timer_ticks c.args.from j h (timer_matches c.pulse_hpet-reach.new.matches j)) (get_or c.run_clock-rtc_up.new.lines (j + 2) no_line)) (hpet_is (pulsed c))
+    (timer_ticks c.args.from j h (timer_matches c.pulses-reach.new.matches j)) (get_or c.run_clock-rtc_up.new.lines (j + 2) no_line)) (hpet_is (pulsed c))
     (c.run_timers.ensures.lines.done j (subst (λ (h : HpetParts). j < h.timers) (sym (hpet_is (pulsed c))) inside)))
     (λ j past. c.run_timers.ensures.lines.rest j (subst (λ (h : HpetParts). h.timers + 2 ≤ j) (sym (hpet_is (pulsed c))) past))
-    c.pulse_hpet-reach.ensures.none k (omega arith)
+    c.pulses-reach.ensures.none k (omega arith)
 
 -- the clock, with PF where its line set it
 abbrev flag_of : (c : goal.After-run_timers) → Bool
@@ -265,20 +272,20 @@ state : (c : goal.After-run_timers)
     → parts_of (record {
       pit = c.pulses-rises.new.self;
       rtc = rtc_pulsed_times (left_pulses c.args.from c.args.to c.self.inside.rtc) c.set_flag.new.rtc;
-      hpet = c.pulse_hpet-reach.new.hpet;
+      hpet = c.pulses-reach.new.self;
       ticks = c.run_timers.new.lines;
       slew_ns = c.self.inside.slew_ns;
     }) ≡ (run c.args.from (c.args.to - c.args.from) (parts_of c.self.inside)).state
 state c = ran-state (known (pulsed c)) c.next_point-point.result c.args.to c.run_timers.new.lines c.pulses-rises.new.self
     (rtc_pulsed_times (left_pulses c.args.from c.args.to c.self.inside.rtc) c.set_flag.new.rtc)
-    c.pulse_hpet-reach.new.hpet (point_is (pulsed c)) (end_is (pulsed c)) c.run_timers.ensures.lines.places (ends c)
+    c.pulses-reach.new.self (point_is (pulsed c)) (end_is (pulsed c)) c.run_timers.ensures.lines.places (ends c)
     (rw c.requires.pulses.pit at c.pulses-rises.ensures.state) (rtc_is c) (hpet_is (pulsed c))
 
 joined : (c : goal.After-run_timers)
     → IsDevices (parts_of (record {
       pit = c.pulses-rises.new.self;
       rtc = rtc_pulsed_times (left_pulses c.args.from c.args.to c.self.inside.rtc) c.set_flag.new.rtc;
-      hpet = c.pulse_hpet-reach.new.hpet;
+      hpet = c.pulses-reach.new.self;
       ticks = c.run_timers.new.lines;
       slew_ns = c.self.inside.slew_ns;
     }))
@@ -316,7 +323,7 @@ times : (c : goal.After-run_timers) → c.run_timers.new.times ≡ lines_from (k
 times c =
     let status : ℕ = c.parts-status.result.status in
     let before : List TickParts = c.run_clock-rtc_up.new.lines in
-    let ms : List Matches = c.pulse_hpet-reach.new.matches in
+    let ms : List Matches = c.pulses-reach.new.matches in
     let h : HpetParts = hpet_pulsed_times (pulses_from HPET_HZ c.args.from (c.args.to - c.args.from)) c.self.inside.hpet in
     let span : Span = record { from = c.args.from; to = c.args.to; point = c.next_point-point.result } in
     c.run_timers.ensures.times
@@ -368,14 +375,14 @@ take_matches-requires-clause-rooms c = λ k less.
     ap (λ (l : TickParts). l.counts.due) (c.count_ticks.ensures.others (k + 2) (λ e. absurd (omega (arith, e)))) in
     let room : (line_at (k + 2) (parts_of c.self.inside)).counts.due + (c.args.to - c.args.from) < 2 ^ 63 =
     rw (← c.self.view_is) at (c.requires.stretch.room (k + 2) (omega arith)) in
-    omega (arith, room, same, c.pulse_hpet-reach.ensures.few k, c.requires.pulses.few_hpet)
+    omega (arith, room, same, c.pulses-reach.ensures.few k, c.requires.pulses.few_hpet)
 
 -- .. and the timers that matched are there
 pub take_matches-requires-clause-inside : goal.take_matches-requires-clause-inside
 take_matches-requires-clause-inside c =
-    let same : c.pulse_hpet-reach.new.hpet.timers ≡ c.self.inside.hpet.timers =
-    ap (λ (h : HpetParts). h.timers) c.pulse_hpet-reach.ensures.state ∙ timers-hpet_pulsed_times c.args.pulses.hpet c.self.inside.hpet in
-    omega (arith, same, c.pulse_hpet-reach.ensures.inside)
+    let same : c.pulses-reach.new.self.timers ≡ c.self.inside.hpet.timers =
+    ap (λ (h : HpetParts). h.timers) c.pulses-reach.ensures.state ∙ timers-hpet_pulsed_times c.args.pulses.hpet c.self.inside.hpet in
+    omega (arith, same, c.pulses-reach.ensures.inside)
 
 -- nothing came of the MC146818
 still_ticks : (c : goal.After-take_matches) → c.pulses-events.result.cycle.ticks ≡ 0
@@ -393,7 +400,7 @@ clock_line c = c.take_matches.ensures.front 1 (omega arith) ∙ c.count_ticks.en
 
 still_ends : (c : goal.After-take_matches) → (k : ℕ) → k < 10 → get_or c.take_matches.new.lines k no_line
     ≡ end_of c.next_point-point.result c.args.to
-    (ticks_at c.args.from c.self.inside.hpet c.pulse_hpet-reach.new.matches (pit_of (still_pulsed c)) (rtc_of (still_pulsed c)) k)
+    (ticks_at c.args.from c.self.inside.hpet c.pulses-reach.new.matches (pit_of (still_pulsed c)) (rtc_of (still_pulsed c)) k)
     (line_at k (parts_of c.self.inside))
 still_ends c zero less =
     c.take_matches.ensures.front 0 (omega arith) ∙ c.count_ticks.ensures.here
@@ -407,14 +414,14 @@ still_ends c (suc zero) less =
 still_ends c (suc (suc k)) less = ends-timers (known (still_pulsed c)) c.next_point-point.result c.args.to c.self.inside.ticks c.take_matches.new.lines
     (λ j small. ap (λ (i : ℕ). get_or c.self.inside.ticks i no_line) (omega arith))
     (λ j inside. c.take_matches.ensures.done j (subst (λ (h : HpetParts). j < h.timers) (sym (hpet_is (still_pulsed c))) inside)
-    ∙ ap (ticked_times (cond (has_ticks j c.pulse_hpet-reach.new.hpet) (timer_matches c.pulse_hpet-reach.new.matches j).count 0)) (timer_lines c j)
-    ∙ ap (λ (h : HpetParts). ticked_times (cond (has_ticks j h) (timer_matches c.pulse_hpet-reach.new.matches j).count 0)
+    ∙ ap (ticked_times (cond (has_ticks j c.pulses-reach.new.self) (timer_matches c.pulses-reach.new.matches j).count 0)) (timer_lines c j)
+    ∙ ap (λ (h : HpetParts). ticked_times (cond (has_ticks j h) (timer_matches c.pulses-reach.new.matches j).count 0)
     (get_or c.self.inside.ticks (j + 2) no_line)) (hpet_is (still_pulsed c))
-    ∙ sym (end-early c.next_point-point.result c.args.to (timer_matches c.pulse_hpet-reach.new.matches j).count _ _ (get_or c.self.inside.ticks (j + 2) no_line)
+    ∙ sym (end-early c.next_point-point.result c.args.to (timer_matches c.pulses-reach.new.matches j).count _ _ (get_or c.self.inside.ticks (j + 2) no_line)
     (early c)))
     (λ j past. c.take_matches.ensures.rest j (subst (λ (h : HpetParts). h.timers + 2 ≤ j) (sym (hpet_is (still_pulsed c))) past)
     ∙ c.count_ticks.ensures.others j (λ e. absurd (omega (arith, e, past))))
-    c.pulse_hpet-reach.ensures.none k (omega arith)
+    c.pulses-reach.ensures.none k (omega arith)
 
 -- PF follows its line, which is as it was
 still_rtc_is : (c : goal.After-take_matches)
@@ -436,19 +443,19 @@ still_state : (c : goal.After-take_matches)
     → parts_of (record {
       pit = c.pulses-rises.new.self;
       rtc = rtc_pulsed_times (left_pulses c.args.from c.args.to c.self.inside.rtc) c.pulses-events.new.self;
-      hpet = c.pulse_hpet-reach.new.hpet;
+      hpet = c.pulses-reach.new.self;
       ticks = c.take_matches.new.lines;
       slew_ns = c.self.inside.slew_ns;
     }) ≡ (run c.args.from (c.args.to - c.args.from) (parts_of c.self.inside)).state
 still_state c = ran-state (known (still_pulsed c)) c.next_point-point.result c.args.to c.take_matches.new.lines c.pulses-rises.new.self
-    (rtc_pulsed_times (left_pulses c.args.from c.args.to c.self.inside.rtc) c.pulses-events.new.self) c.pulse_hpet-reach.new.hpet (point_is (still_pulsed c)) (end_is (still_pulsed c)) c.take_matches.ensures.places (still_ends c)
+    (rtc_pulsed_times (left_pulses c.args.from c.args.to c.self.inside.rtc) c.pulses-events.new.self) c.pulses-reach.new.self (point_is (still_pulsed c)) (end_is (still_pulsed c)) c.take_matches.ensures.places (still_ends c)
     (rw c.requires.pulses.pit at c.pulses-rises.ensures.state) (still_rtc_is c) (hpet_is (still_pulsed c))
 
 still_joined : (c : goal.After-take_matches)
     → IsDevices (parts_of (record {
       pit = c.pulses-rises.new.self;
       rtc = rtc_pulsed_times (left_pulses c.args.from c.args.to c.self.inside.rtc) c.pulses-events.new.self;
-      hpet = c.pulse_hpet-reach.new.hpet;
+      hpet = c.pulses-reach.new.self;
       ticks = c.take_matches.new.lines;
       slew_ns = c.self.inside.slew_ns;
     }))
@@ -461,14 +468,14 @@ invariant_of-self c = unpassed (still_pulsed c) _ refl (ap register_b (taken (st
     (still_joined c)
 
 -- a timer that matches is there
-there : (c : goal.After-take_matches) (k : ℕ) → 0 < (timer_matches c.pulse_hpet-reach.new.matches k).count → k < c.pulse_hpet-reach.new.hpet.timers
+there : (c : goal.After-take_matches) (k : ℕ) → 0 < (timer_matches c.pulses-reach.new.matches k).count → k < c.pulses-reach.new.self.timers
 there c k some = elim (cases_lt k c.self.inside.hpet.timers) [
   | inl inside ↦
-      let same : c.pulse_hpet-reach.new.hpet.timers ≡ c.self.inside.hpet.timers =
+      let same : c.pulses-reach.new.self.timers ≡ c.self.inside.hpet.timers =
       ap (λ (h : HpetParts). h.timers) (hpet_is (still_pulsed c))
       ∙ timers-hpet_pulsed_times (pulses_from HPET_HZ c.args.from (c.args.to - c.args.from)) c.self.inside.hpet in
       omega (arith, inside, same)
-  | inr gone ↦ absurd (omega (arith, some, ap (λ (m : Matches). m.count) (c.pulse_hpet-reach.ensures.none k gone)))
+  | inr gone ↦ absurd (omega (arith, some, ap (λ (m : Matches). m.count) (c.pulses-reach.ensures.none k gone)))
 ]
 
 -- ticks that are due find their line up
@@ -494,7 +501,7 @@ found c (suc zero) less some =
 found c (suc (suc k)) less some =
     let due : (has_ticks k c.self.inside.hpet ≡ true)
     × (0 < matches_of k c.self.inside.hpet (pulses_from HPET_HZ c.args.from (c.args.to - c.args.from))) = some_where _ _ some in
-    let count : 0 < (timer_matches c.pulse_hpet-reach.new.matches k).count = omega (arith, due.1, (brought (still_pulsed c)).timer_count k (enabled_of k c.self.inside.hpet due.0)) in
+    let count : 0 < (timer_matches c.pulses-reach.new.matches k).count = omega (arith, due.1, (brought (still_pulsed c)).timer_count k (enabled_of k c.self.inside.hpet due.0)) in
     let place : suc (suc k) ≡ k + 2 = omega arith in
     ap (λ (i : ℕ). (get_or c.self.inside.ticks i no_line).up) place
     ∙ c.if-finds_up.ensures.timers refl k (there c k count) count
@@ -504,7 +511,7 @@ found c (suc (suc k)) less some =
 -- no timer of level type that is enabled matches
 level : (c : goal.After-take_matches) (k : ℕ) → is_level (timer_at k c.self.inside.hpet) ≡ true → is_enabled (timer_at k c.self.inside.hpet) ≡ true
     → matches_of k c.self.inside.hpet (pulses_from HPET_HZ c.args.from (c.args.to - c.args.from)) ≡ 0
-level c k is_on enabled = elim (cases_lt 0 (timer_matches c.pulse_hpet-reach.new.matches k).count) [
+level c k is_on enabled = elim (cases_lt 0 (timer_matches c.pulses-reach.new.matches k).count) [
   | inl some ↦ absurd (true≢false (sym is_on
       ∙ sym (is_level-hpet_pulsed_times k (pulses_from HPET_HZ c.args.from (c.args.to - c.args.from)) c.self.inside.hpet)
       ∙ sym (ap (λ (h : HpetParts). is_level (timer_at k h)) (hpet_is (still_pulsed c))) ∙ c.if-finds_up.ensures.edge refl k (there c k some) some))
@@ -551,7 +558,7 @@ pub returns-clause-joined : goal.returns-clause-joined
 returns-clause-joined c = subst (joins (pulsed c) (parts_of (record {
   pit = c.pulses-rises.new.self;
   rtc = c.set_flag.new.rtc;
-  hpet = c.pulse_hpet-reach.new.hpet;
+  hpet = c.pulses-reach.new.self;
   ticks = c.run_timers.new.lines;
   slew_ns = c.self.inside.slew_ns;
 }))) c.self.view_is (joined c)
@@ -560,7 +567,7 @@ pub returns-then-finds_up-clause-joined : goal.returns-then-finds_up-clause-join
 returns-then-finds_up-clause-joined c = subst (joins (still_pulsed c) (parts_of (record {
   pit = c.pulses-rises.new.self;
   rtc = c.pulses-events.new.self;
-  hpet = c.pulse_hpet-reach.new.hpet;
+  hpet = c.pulses-reach.new.self;
   ticks = c.take_matches.new.lines;
   slew_ns = c.self.inside.slew_ns;
 }))) c.self.view_is (still_joined c)

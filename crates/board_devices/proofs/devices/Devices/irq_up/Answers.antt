@@ -1,30 +1,32 @@
-use Rattle.std.proofs.Common.{◌≡◌, Bool, true, false, not, ap, sym, refl, ◌∙◌}
+use Rattle.std.proofs.Common.{◌≡◌, ◌&&◌, Bool, true, false, not, ap, sym, refl, ◌∙◌}
 use Rattle.std.proofs.lemmas.Bool.{true≢false}
 use Rattle.rtc_cycle.specs.Divider.{updates_in}
 use Rattle.rtc_registers.specs.Registers.{divider_of}
 use Rattle.rtc_registers.specs.Pulses.{alarms_in}
 use Rattle.board_devices.specs.View.{parts_of}
 use Rattle.board_devices.specs.private.Ahead.{first_of, clock_line_up, irq_up}
+use Rattle.board_devices.specs.private.Stretch.{either_from}
 use Rattle.board_devices.proofs.FirstOf.{first_alarm, first_update}
 use Rattle.board_devices.proofs.Ahead.{irq-alone, irq-by_events}
 use Rattle.board_devices.proofs.devices.Devices.irq_up.Goals as goal
 
-off : (b : Bool) → not b ≡ true → b ≡ false
-off false h = refl
-off true h = absurd (true≢false (sym h))
+both_off : (a b : Bool) → (not a && not b) ≡ true → (a ≡ false) × (b ≡ false)
+both_off false false h = (refl, refl)
+both_off true b h = absurd (true≢false (sym h))
+both_off false true h = absurd (true≢false (sym h))
 
-pub returns-then-not-shown-2 : goal.returns-then-not-shown-2
-returns-then-not-shown-2 c =
+pub returns-then-is_tick_line : goal.returns-then-is_tick_line
+returns-then-is_tick_line c =
+    let off : (c.shown_of-shown.result.aie ≡ false) × (c.shown_of-shown.result.uie ≡ false) =
+    both_off c.shown_of-shown.result.aie c.shown_of-shown.result.uie (sym c.is_tick_line.ensures ∙ c.if-is_tick_line.true) in
     c.clock_line_up-line.ensures
     ∙ ap (clock_line_up c.args.span) (sym c.self.view_is)
-    ∙ irq-alone c.args.span (parts_of c.self.inside)
-    (sym c.shown_of-shown.ensures.aie ∙ off c.shown_of-shown.result.aie c.if-not-shown.true)
-    (sym c.shown_of-shown.ensures.uie ∙ off c.shown_of-shown.result.uie c.if-not-shown-2.true)
+    ∙ irq-alone c.args.span (parts_of c.self.inside) (sym c.shown_of-shown.ensures.aie ∙ off.0) (sym c.shown_of-shown.ensures.uie ∙ off.1)
     ∙ ap (irq_up c.args.span) c.self.view_is
 
 pub returns : goal.returns
 returns c =
-    c.irq_up.ensures
+    c.either_from.ensures ∙ ap (either_from c.clock_line_up-line.result) c.flags_up.ensures
     ∙ irq-by_events c.args.span (parts_of c.self.inside) c.clock_line_up-line.result c.pulses-events.result.first_alarm
     c.pulses-events.result.cycle.first_update
     (c.clock_line_up-line.ensures ∙ ap (clock_line_up c.args.span) (sym c.self.view_is))

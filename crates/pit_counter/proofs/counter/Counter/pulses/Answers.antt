@@ -16,8 +16,8 @@ invariant_of-self c = record {
   planned = c.if-take_planned.ensures.planned;
 }
 
-pub take_and_plan-requires : goal.take_and_plan-requires
-take_and_plan-requires c = subst (λ (p : CounterParts). IsCounter p) (sym c.if-take_planned.ensures.kept) c.self.invariant.valid
+pub take_and_plan-requires-clause-valid : goal.take_and_plan-requires-clause-valid
+take_and_plan-requires-clause-valid c = subst (λ (p : CounterParts). IsCounter p) (sym c.if-take_planned.ensures.kept) c.self.invariant.valid
 
 pub invariant_of-self-2 : goal.invariant_of-self-2
 invariant_of-self-2 c = record {

@@ -27,17 +27,17 @@ quiet ds line reply edges bursts =
 
 pub returns-then-is_empty-2 : goal.returns-then-is_empty-2
 returns-then-is_empty-2 c =
-    let cpu : ℕ = c.args.given.now.cpu in
-    let h : ℕ = c.args.given.now.h in
+    let cpu : ℕ = c.args.asked.cpu in
+    let h : ℕ = c.args.asked.h in
     let ds : Deliveries = c.args.self.now.deliveries in
     let out : List ℕ = c.args.out.now.items in
-    let reply : Reply = c.answer.new.reply in
+    let reply : Reply = c.take.new.reply in
     let printed_now = subst (λ (x : BoardParts). OnOk c.board_line.result (c.board_line.new.out.items
-    ≡ out ++ printed (with_board (job_answer c.args.line cpu h (Ask (Act c.args.access)) ds x) c.args.self.now))) c.board.view_is
+    ≡ out ++ printed (with_board (job_answer c.args.line cpu h (Ask (Act c.args.asked.access)) ds x) c.args.self.now))) c.board.view_is
     (subst (λ (t : List ℕ). OnOk c.board_line.result (c.board_line.new.out.items ≡ t))
     (ap (λ (t : List ℕ). out ++ t) (sym (quiet ds c.args.line reply (c.is_empty.ensures.0 c.if-is_empty.true)
     (c.is_empty-then-is_empty.ensures.0 c.if-is_empty-2.true)))
-    ∙ access-printed c.args.line cpu h c.args.access ds c.board.inside.state c.args.self.now reply out c.in-Ok.ensures.taken c.in-Ok.ensures.reply)
+    ∙ access-printed c.args.line cpu h c.args.asked.access ds c.board.inside.state c.args.self.now reply out c.if-not-take.ensures.taken.taken c.if-not-take.ensures.taken.reply)
     c.board_line.ensures.ok) in record {
       printed = printed_now;
       ends = search rules;
