@@ -55,7 +55,7 @@ impl BoardState {
     }
 
     /// The same into a reply that its caller keeps, without edges and messages in it (`Reply::clear`). It copies no reply,
-    /// so it is the faster of the two.
+    /// so it is faster than `access`.
     #[inline(always)]
     pub fn answer(&mut self, cpu: u8, h: u64, a: Access, reply: &mut Reply) -> Result<(), Refusal>
         requires { IsAsked self.old cpu a reply.old }

@@ -71,8 +71,7 @@ impl BoardState {
         ensures same { caught_up self.new lag.now ≡ self.new }
         ensures lazy { IsLazy self.new lag.now.host lag.now.horizon }
     {
-        // What joins a board's parts gives its counter a rate.
-        let _cpus = self.cpus();
+        self.joined();
         self.pass_to(lag.host);
     }
 
@@ -105,8 +104,7 @@ impl BoardState {
             return true;
         }
         self.catch_up_before(lag, h);
-        // What joins a board's parts gives its counter a rate.
-        let _cpus = self.cpus();
+        self.joined();
         // One run takes the board from where it lags to the access.
         if !self.take(cpu, h, a, reply) {
             return false;
@@ -134,7 +132,7 @@ impl BoardState {
         *value = self.take_passive(lag, now_ns, a);
     }
 
-    /// Brings a board up to its time that lags beyond count `h`. Another may lag on.
+    /// Brings a board that lags beyond count `h` up to its time. One that lags to `h` at most stays as it is.
     #[inline(always)]
     fn catch_up_before(&mut self, lag: &mut Lag, h: u64)
         requires { IsLazy self.old lag.old.host lag.old.horizon }
@@ -148,15 +146,13 @@ impl BoardState {
         }
     }
 
-    /// How far a board may lag after a passive access, up to which its devices have run, and which brought no edge or did.
-    /// After enough without one the horizon is looked for.
+    /// Sets the lag after a passive access, to whose time the devices have run; `no_edge` says whether it brought none. After
+    /// `STILL` in a row that brought none the horizon is looked for, and the board may lag up to it.
     #[inline(always)]
     fn lag_on(&self, lag: &mut Lag, no_edge: bool)
         ensures same { caught_up self.now lag.new ≡ self.now }
         ensures lazy { IsLazy self.now lag.new.host lag.new.horizon }
     {
-        // What joins a board's parts gives its counter a rate.
-        let _cpus = self.cpus();
         lag.still = more_still(lag.still, no_edge);
         lag.host = 0;
         lag.horizon = 0;
@@ -178,8 +174,8 @@ impl BoardState {
             && self.accesses < MOST_ACCESSES
     }
 
-    /// Counts it, and answers whether it moves the board's time: its count is beyond those before. What it reads, and leaves, is
-    /// still to come.
+    /// Counts a passive access at count `h`, and answers whether `h` is beyond all counts before, so that the board's time may
+    /// grow. Nothing is read yet: `take_passive` does what the access asks.
     #[inline(always)]
     pub fn count(&mut self, lag: &mut Lag, h: u64) -> bool
         requires lazy { IsLazy self.old lag.old.host lag.old.horizon }
@@ -218,8 +214,7 @@ impl BoardState {
         ensures value { result ≡ now_of (caught_up self.now lag.now) }
         ensures range { result < RANGE_NS }
     {
-        // What joins a board's parts gives its counter a rate.
-        let _cpus = self.cpus();
+        self.joined();
         self.time_by(lag.host)
     }
 
@@ -231,8 +226,7 @@ impl BoardState {
         ensures value { result ≡ now_of (caught_up self.now lag.now) }
         ensures range { result < RANGE_NS }
     {
-        // What joins a board's parts gives its counter a rate.
-        let _cpus = self.cpus();
+        self.joined();
         self.time_beyond(lag.host)
     }
 

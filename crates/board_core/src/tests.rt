@@ -129,6 +129,14 @@ const fn counts(
     (h, Access::CountsOf { from }, Value::Counts(counts))
 }
 
+/// A board of format 1 with a mode of counter 0 of its 8254, and a count below 256, both written at 0.
+fn programmed(rt: &impl Abort, policy: Policy, control: u8, count: u8) -> BoardState {
+    let mut board = board(policy);
+    let rows = [out(0x43, control), out(0x40, count), out(0x40, 0)];
+    play(rt, &mut board, &rows, &[]);
+    board
+}
+
 #[test]
 fn ticks_of_the_8254_in_modes_0_2_and_3(rt: HostRuntime) {
     let mut first = board(Policy::Delay);
@@ -138,20 +146,11 @@ fn ticks_of_the_8254_in_modes_0_2_and_3(rt: HostRuntime) {
         counts(2_000, TickSource::Pit, 1, 1, 0, 0),
     ];
     play(&rt, &mut first, &rows, &[(1677, 0, true)]);
-    let mut second = board(Policy::Delay);
-    let rows = [
-        out(0x43, 0x34),
-        out(0x40, 4),
-        out(0x40, 0),
-        read(5_000, 0x40, 4),
-        read(5_000, 0x40, 0),
-    ];
+    let mut second = programmed(&rt, Policy::Delay, 0x34, 4);
+    let rows = [read(5_000, 0x40, 4), read(5_000, 0x40, 0)];
     play(&rt, &mut second, &rows, &[(4191, 0, true)]);
-    let mut third = board(Policy::Delay);
+    let mut third = programmed(&rt, Policy::Delay, 0x36, 5);
     let rows = [
-        out(0x43, 0x36),
-        out(0x40, 5),
-        out(0x40, 0),
         counts(10_000, TickSource::Pit, 2, 1, 1, 0),
         read(10_000, 0x40, 4),
     ];
@@ -160,34 +159,21 @@ fn ticks_of_the_8254_in_modes_0_2_and_3(rt: HostRuntime) {
 
 #[test]
 fn the_next_edge_of_a_whole_count(rt: HostRuntime) {
-    let mut binary = board(Policy::Delay);
+    let mut binary = programmed(&rt, Policy::Delay, 0x34, 0);
     let next = (0, Access::Next, Value::Next(Some(54_926_240)));
-    play(
-        &rt,
-        &mut binary,
-        &[out(0x43, 0x34), out(0x40, 0), out(0x40, 0), next],
-        &[],
-    );
+    play(&rt, &mut binary, &[next], &[]);
     assert_eq!(rt; binary.next_edge(), Some(54_926_240));
-    let mut decimal = board(Policy::Delay);
+    let mut decimal = programmed(&rt, Policy::Delay, 0x35, 0);
     let next = (0, Access::Next, Value::Next(Some(8_381_790)));
-    play(
-        &rt,
-        &mut decimal,
-        &[out(0x43, 0x35), out(0x40, 0), out(0x40, 0), next],
-        &[],
-    );
+    play(&rt, &mut decimal, &[next], &[]);
     let mut none = board(Policy::Delay);
     play(&rt, &mut none, &[(0, Access::Next, Value::Next(None))], &[]);
 }
 
 #[test]
 fn a_first_of_two_bytes_takes_the_line_down(rt: HostRuntime) {
-    let mut board = board(Policy::Delay);
+    let mut board = programmed(&rt, Policy::Delay, 0x30, 2);
     let rows = [
-        out(0x43, 0x30),
-        out(0x40, 2),
-        out(0x40, 0),
         (3_000, Access::Ack { line: 0 }, Value::Nothing),
         (
             3_000,
@@ -335,16 +321,13 @@ fn a_periodic_timer_across_a_wrap(rt: HostRuntime) {
 
 #[test]
 fn legacy_replacement_while_out_0_is_low(rt: HostRuntime) {
-    let mut board = board(Policy::Delay);
+    let mut board = programmed(&rt, Policy::Delay, 0x34, 4);
     let enable = Access::HpetWrite {
         offset: 0x10,
         width: 4,
         value: 3,
     };
     let rows = [
-        out(0x43, 0x34),
-        out(0x40, 4),
-        out(0x40, 0),
         hpet_write(0x100, 0x2804),
         hpet_write(0x108, 0x64),
         (3_500, enable, Value::Nothing),
@@ -354,59 +337,45 @@ fn legacy_replacement_while_out_0_is_low(rt: HostRuntime) {
     play(&rt, &mut board, &rows, &[(4500, 0, true)]);
 }
 
+/// Ten ticks that are missed under a policy: their counts before and after the line is acknowledged, and all edges.
+fn play_missed(
+    rt: &impl Abort,
+    policy: Policy,
+    before: (u64, Access, Value),
+    after: (u64, Access, Value),
+    edges: &[(u64, u8, bool)],
+) {
+    let mut board = programmed(rt, policy, 0x34, 4);
+    let ack = (38_000, Access::Ack { line: 0 }, Value::Nothing);
+    play(rt, &mut board, &[before, ack, after], edges);
+}
+
 #[test]
 fn ten_missed_ticks_under_each_policy(rt: HostRuntime) {
-    let ack = (38_000, Access::Ack { line: 0 }, Value::Nothing);
-    let begin = [out(0x43, 0x34), out(0x40, 4), out(0x40, 0)];
-    let mut discard = board(Policy::Discard);
-    play(&rt, &mut discard, &begin, &[]);
-    let rows = [
-        counts(38_000, TickSource::Pit, 11, 1, 0, 10),
-        ack,
-        counts(39_000, TickSource::Pit, 11, 1, 0, 10),
-    ];
-    play(
+    let up = (4191, 0, true);
+    let down = (38_000, 0, false);
+    let lost = counts(38_000, TickSource::Pit, 11, 1, 0, 10);
+    let still_lost = counts(39_000, TickSource::Pit, 11, 1, 0, 10);
+    play_missed(&rt, Policy::Discard, lost, still_lost, &[up, down]);
+    let queued = counts(38_000, TickSource::Pit, 11, 1, 10, 0);
+    let one_less = counts(39_000, TickSource::Pit, 11, 2, 9, 0);
+    let at_once = (38_000, 0, true);
+    play_missed(&rt, Policy::Delay, queued, one_less, &[up, down, at_once]);
+    let at_the_point = (39_000, 0, true);
+    play_missed(
         &rt,
-        &mut discard,
-        &rows,
-        &[(4191, 0, true), (38_000, 0, false)],
-    );
-    let mut delay = board(Policy::Delay);
-    play(&rt, &mut delay, &begin, &[]);
-    let rows = [
-        counts(38_000, TickSource::Pit, 11, 1, 10, 0),
-        ack,
-        counts(39_000, TickSource::Pit, 11, 2, 9, 0),
-    ];
-    play(
-        &rt,
-        &mut delay,
-        &rows,
-        &[(4191, 0, true), (38_000, 0, false), (38_000, 0, true)],
-    );
-    let mut slew = board(Policy::Slew);
-    play(&rt, &mut slew, &begin, &[]);
-    let rows = [
-        counts(38_000, TickSource::Pit, 11, 1, 10, 0),
-        ack,
-        counts(39_000, TickSource::Pit, 11, 2, 9, 0),
-    ];
-    play(
-        &rt,
-        &mut slew,
-        &rows,
-        &[(4191, 0, true), (38_000, 0, false), (39_000, 0, true)],
+        Policy::Slew,
+        queued,
+        one_less,
+        &[up, down, at_the_point],
     );
 }
 
 #[test]
 fn ten_years_in_one_step(rt: HostRuntime) {
-    let mut board = board(Policy::Delay);
+    let mut board = programmed(&rt, Policy::Delay, 0x34, 4);
     let years = 315_360_000_000_000_000;
     let rows = [
-        out(0x43, 0x34),
-        out(0x40, 4),
-        out(0x40, 0),
         counts(
             years,
             TickSource::Pit,

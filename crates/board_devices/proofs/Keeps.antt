@@ -53,20 +53,19 @@ IsDevices-each d p r h ls f valid ls_is keeps timers flag = record {
     policy_at : (k : ℕ) → k < 10 → (get_or ls k no_line).policy ≡ (line_at k d).policy
     policy_at k less = ap (λ (l : TickParts). l.policy) (at k less) ∙ keeps.policy k (line_at k d)
 
+    was : (k : ℕ) (b : Bool) → k < 8 → ltb k d.hpet.timers ≡ b → IsTimerLine b (line_at 2 d).policy (line_at (suc (suc k)) d)
+    was k b small test = subst (λ (x : Bool). IsTimerLine x (line_at 2 d).policy (line_at (suc (suc k)) d)) test (valid.timer_lines k small)
+
     timer_line : (k : ℕ) → k < 8 → IsTimerLine (ltb k d.hpet.timers) (get_or ls 2 no_line).policy (get_or ls (suc (suc k)) no_line)
     timer_line k small = elim (cases_lt k d.hpet.timers) [
       | inl there ↦
-          let line : (line_at (suc (suc k)) d).policy
-          ≡ (line_at 2 d).policy = subst (λ (b : Bool). IsTimerLine b (line_at 2 d).policy (line_at (suc (suc k)) d)) (lt-ltb k d.hpet.timers there)
-          (valid.timer_lines k small) in
-          subst (λ (b : Bool). IsTimerLine b (get_or ls 2 no_line).policy (get_or ls (suc (suc k)) no_line)) (sym (lt-ltb k d.hpet.timers there))
-          (policy_at (suc (suc k)) (omega arith) ∙ line ∙ sym (policy_at 2 (omega arith)))
+          let test : ltb k d.hpet.timers ≡ true = lt-ltb k d.hpet.timers there in
+          subst (λ (b : Bool). IsTimerLine b (get_or ls 2 no_line).policy (get_or ls (suc (suc k)) no_line)) (sym test)
+          (policy_at (suc (suc k)) (omega arith) ∙ was k true small test ∙ sym (policy_at 2 (omega arith)))
       | inr gone ↦
-          let line : line_at (suc (suc k)) d
-          ≡ no_line = subst (λ (b : Bool). IsTimerLine b (line_at 2 d).policy (line_at (suc (suc k)) d)) (le-ltb k d.hpet.timers gone)
-          (valid.timer_lines k small) in
-          subst (λ (b : Bool). IsTimerLine b (get_or ls 2 no_line).policy (get_or ls (suc (suc k)) no_line)) (sym (le-ltb k d.hpet.timers gone))
-          (at (suc (suc k)) (omega arith) ∙ ap (f (suc (suc k))) line ∙ keeps.absent k gone small)
+          let test : ltb k d.hpet.timers ≡ false = le-ltb k d.hpet.timers gone in
+          subst (λ (b : Bool). IsTimerLine b (get_or ls 2 no_line).policy (get_or ls (suc (suc k)) no_line)) (sym test)
+          (at (suc (suc k)) (omega arith) ∙ ap (f (suc (suc k))) (was k false small test) ∙ keeps.absent k gone small)
     ]
 
 pub KeepsLines-acked : (test : ℕ → Bool) (timers : ℕ) → KeepsLines (λ k l. acked_where (test k) l) timers
@@ -95,38 +94,34 @@ KeepsLines-pit_ticked b timers = record { policy = λ k l. policy (pit_ticked b 
     policy true l = refl
     policy false l = refl
 
--- a write to the HPET keeps its number of timers and its message registers
-timers-register_written : (register : Register) (width : ℕ) (high : Bool) (v : ℕ) (h : HpetParts) → (register_written register width high v h).timers ≡ h.timers
-timers-register_written Capabilities width high v h = refl
-timers-register_written Configuration width high v h = refl
-timers-register_written Status width high v h = refl
-timers-register_written MainCounter width high v h = refl
-timers-register_written (TimerConfig k) width high v h = refl
-timers-register_written (TimerComparator k) width high v h = refl
-timers-register_written (TimerMessage k) width high v h = refl
-timers-register_written Reserved width high v h = refl
+-- a write to the HPET keeps its number of timers and whether it has message registers
+record KeepsTimers (g h : HpetParts) : Type 0 where
+  pub timers : g.timers ≡ h.timers
+  pub messages : g.messages ≡ h.messages
 
-messages-register_written : (register : Register) (width : ℕ) (high : Bool) (v : ℕ) (h : HpetParts) → (register_written register width high v h).messages
-    ≡ h.messages
-messages-register_written Capabilities width high v h = refl
-messages-register_written Configuration width high v h = refl
-messages-register_written Status width high v h = refl
-messages-register_written MainCounter width high v h = refl
-messages-register_written (TimerConfig k) width high v h = refl
-messages-register_written (TimerComparator k) width high v h = refl
-messages-register_written (TimerMessage k) width high v h = refl
-messages-register_written Reserved width high v h = refl
+KeepsTimers-register_written : (register : Register) (width : ℕ) (high : Bool) (v : ℕ) (h : HpetParts)
+    → KeepsTimers (register_written register width high v h) h
+KeepsTimers-register_written Capabilities width high v h = record { timers = refl; messages = refl }
+KeepsTimers-register_written Configuration width high v h = record { timers = refl; messages = refl }
+KeepsTimers-register_written Status width high v h = record { timers = refl; messages = refl }
+KeepsTimers-register_written MainCounter width high v h = record { timers = refl; messages = refl }
+KeepsTimers-register_written (TimerConfig k) width high v h = record { timers = refl; messages = refl }
+KeepsTimers-register_written (TimerComparator k) width high v h = record { timers = refl; messages = refl }
+KeepsTimers-register_written (TimerMessage k) width high v h = record { timers = refl; messages = refl }
+KeepsTimers-register_written Reserved width high v h = record { timers = refl; messages = refl }
 
-where_effective : {X : Type 0} (f : HpetParts → X) (b : Bool) (g h : HpetParts) → f g ≡ f h → f (cond b g h) ≡ f h
-where_effective f true g h e = e
-where_effective f false g h e = refl
+KeepsTimers-hpet_written : (offset width v : ℕ) (h : HpetParts) → KeepsTimers (hpet_written offset width v h) h
+KeepsTimers-hpet_written offset width v h = by_effect (is_effective offset width) _ (KeepsTimers-register_written _ width _ v h)
+  where
+    by_effect : (b : Bool) (g : HpetParts) → KeepsTimers g h → KeepsTimers (cond b g h) h
+    by_effect true g keeps = keeps
+    by_effect false g keeps = record { timers = refl; messages = refl }
 
 pub timers-hpet_written : (offset width v : ℕ) (h : HpetParts) → (hpet_written offset width v h).timers ≡ h.timers
-timers-hpet_written offset width v h = where_effective (λ (g : HpetParts). g.timers) (is_effective offset width) _ h (timers-register_written _ width _ v h)
+timers-hpet_written offset width v h = (KeepsTimers-hpet_written offset width v h).timers
 
 pub messages-hpet_written : (offset width v : ℕ) (h : HpetParts) → (hpet_written offset width v h).messages ≡ h.messages
-messages-hpet_written offset width v h = where_effective (λ (g : HpetParts). g.messages) (is_effective offset width) _ h
-    (messages-register_written _ width _ v h)
+messages-hpet_written offset width v h = (KeepsTimers-hpet_written offset width v h).messages
 
 -- a line without ticks that holds nothing
 none-line_after : (ticks : ℕ → ℕ) → ((j : ℕ) → ticks j ≡ 0) → (slew t n : ℕ) → line_after ticks slew t n no_line ≡ no_line

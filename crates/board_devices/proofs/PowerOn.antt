@@ -21,39 +21,27 @@ timers-three_or_eight format = by (leb format 1)
     by true = inl refl
     by false = inr refl
 
-timer_lines_at_power_on : (timers : ℕ) (pit rtc hpet : Policy) → (timers ≡ 3) ⊎ (timers ≡ 8) → (k : ℕ) → k < 8
-    → IsTimerLine (ltb k timers) (get_or (lines_at_power_on timers pit rtc hpet) 2 no_line).policy
+-- what holds at eight places holds at each
+below_eight : (P : ℕ → Type 0) → P 0 → P 1 → P 2 → P 3 → P 4 → P 5 → P 6 → P 7 → (k : ℕ) → k < 8 → P k
+below_eight P p0 p1 p2 p3 p4 p5 p6 p7 zero less = p0
+below_eight P p0 p1 p2 p3 p4 p5 p6 p7 (suc zero) less = p1
+below_eight P p0 p1 p2 p3 p4 p5 p6 p7 (suc (suc zero)) less = p2
+below_eight P p0 p1 p2 p3 p4 p5 p6 p7 (suc (suc (suc zero))) less = p3
+below_eight P p0 p1 p2 p3 p4 p5 p6 p7 (suc (suc (suc (suc zero)))) less = p4
+below_eight P p0 p1 p2 p3 p4 p5 p6 p7 (suc (suc (suc (suc (suc zero))))) less = p5
+below_eight P p0 p1 p2 p3 p4 p5 p6 p7 (suc (suc (suc (suc (suc (suc zero)))))) less = p6
+below_eight P p0 p1 p2 p3 p4 p5 p6 p7 (suc (suc (suc (suc (suc (suc (suc zero))))))) less = p7
+below_eight P p0 p1 p2 p3 p4 p5 p6 p7 (suc (suc (suc (suc (suc (suc (suc (suc k)))))))) less = absurd (omega arith)
+
+abbrev IsLineOf : (timers : ℕ) (pit rtc hpet : Policy) (k : ℕ) → Type 0
+IsLineOf timers pit rtc hpet k = IsTimerLine (ltb k timers) (get_or (lines_at_power_on timers pit rtc hpet) 2 no_line).policy
     (get_or (lines_at_power_on timers pit rtc hpet) (suc (suc k)) no_line)
-timer_lines_at_power_on timers pit rtc hpet (inl three) k small = subst
-    (λ (n : ℕ). IsTimerLine (ltb k n) (get_or (lines_at_power_on n pit rtc hpet) 2 no_line).policy
-    (get_or (lines_at_power_on n pit rtc hpet) (suc (suc k)) no_line)) (sym three) (place k small)
-  where
-    place : (k : ℕ) → k < 8 → IsTimerLine (ltb k 3) (get_or (lines_at_power_on 3 pit rtc hpet) 2 no_line).policy
-        (get_or (lines_at_power_on 3 pit rtc hpet) (suc (suc k)) no_line)
-    place zero h = refl
-    place (suc zero) h = refl
-    place (suc (suc zero)) h = refl
-    place (suc (suc (suc zero))) h = refl
-    place (suc (suc (suc (suc zero)))) h = refl
-    place (suc (suc (suc (suc (suc zero))))) h = refl
-    place (suc (suc (suc (suc (suc (suc zero)))))) h = refl
-    place (suc (suc (suc (suc (suc (suc (suc zero))))))) h = refl
-    place (suc (suc (suc (suc (suc (suc (suc (suc k)))))))) h = absurd (omega arith)
-timer_lines_at_power_on timers pit rtc hpet (inr eight) k small = subst
-    (λ (n : ℕ). IsTimerLine (ltb k n) (get_or (lines_at_power_on n pit rtc hpet) 2 no_line).policy
-    (get_or (lines_at_power_on n pit rtc hpet) (suc (suc k)) no_line)) (sym eight) (place k small)
-  where
-    place : (k : ℕ) → k < 8 → IsTimerLine (ltb k 8) (get_or (lines_at_power_on 8 pit rtc hpet) 2 no_line).policy
-        (get_or (lines_at_power_on 8 pit rtc hpet) (suc (suc k)) no_line)
-    place zero h = refl
-    place (suc zero) h = refl
-    place (suc (suc zero)) h = refl
-    place (suc (suc (suc zero))) h = refl
-    place (suc (suc (suc (suc zero)))) h = refl
-    place (suc (suc (suc (suc (suc zero))))) h = refl
-    place (suc (suc (suc (suc (suc (suc zero)))))) h = refl
-    place (suc (suc (suc (suc (suc (suc (suc zero))))))) h = refl
-    place (suc (suc (suc (suc (suc (suc (suc (suc k)))))))) h = absurd (omega arith)
+
+timer_lines_at_power_on : (timers : ℕ) (pit rtc hpet : Policy) → (timers ≡ 3) ⊎ (timers ≡ 8) → (k : ℕ) → k < 8 → IsLineOf timers pit rtc hpet k
+timer_lines_at_power_on timers pit rtc hpet (inl three) k small = subst (λ (n : ℕ). IsLineOf n pit rtc hpet k) (sym three)
+    (below_eight (IsLineOf 3 pit rtc hpet) refl refl refl refl refl refl refl refl k small)
+timer_lines_at_power_on timers pit rtc hpet (inr eight) k small = subst (λ (n : ℕ). IsLineOf n pit rtc hpet k) (sym eight)
+    (below_eight (IsLineOf 8 pit rtc hpet) refl refl refl refl refl refl refl refl k small)
 
 pub IsDevices-at_power_on : (s : Setup) → IsSetup s → IsDevices (devices_at_power_on s)
 IsDevices-at_power_on s valid = record {

@@ -67,7 +67,8 @@ driven-settled : (t : ℕ) (b : Bool) (u : Option ℕ) → IsSettled t u → IsS
 driven-settled t true u settled = settled
 driven-settled t false u settled = none-settled t
 
-pub routed-settled : (t line n : ℕ) (h : HpetParts) (us : List (Option ℕ)) → ((k : ℕ) → k < n → IsSettled t (get_or us k None)) → IsSettled t (routed_from line n h us)
+pub routed-settled : (t line n : ℕ) (h : HpetParts) (us : List (Option ℕ))
+    → ((k : ℕ) → k < n → IsSettled t (get_or us k None)) → IsSettled t (routed_from line n h us)
 routed-settled t line zero h us settled = none-settled t
 routed-settled t line (suc k) h us settled =
     either-settled t (routed_from line k h us) (cond (drives line k h) (get_or us k None) None)

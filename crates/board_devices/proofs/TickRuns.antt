@@ -1,5 +1,5 @@
 -- A stretch in which only rises of OUT 0 come: line 0 goes up with the first of them, and no other line moves.
-use Rattle.std.proofs.Common.{◌≡◌, ◌≢◌, ℕ, zero, suc, ◌+◌, ◌-◌, ◌<◌, ◌≤◌, Bool, true, false, cond, ltb, leb, ◌&&◌, ◌||◌, not}
+use Rattle.std.proofs.Common.{◌≡◌, ◌≢◌, ℕ, zero, suc, ◌+◌, ◌-◌, ◌*◌, ◌/◌, ◌<◌, ◌≤◌, Bool, true, false, cond, ltb, leb, ◌&&◌, ◌||◌, not}
 use Rattle.std.proofs.Common.{List, [], ◌∷◌, ◌++◌, length, map, get_or, Option, Some, None, refl, ap, sym, ◌∙◌, inl, inr, arith}
 use Rattle.std.proofs.Math.Bool.{or-false}
 use Rattle.std.proofs.lemmas.Bool.{cases_lt, le-ltb, lt-ltb, le-leb, true≢false}
@@ -37,7 +37,7 @@ use Rattle.board_devices.proofs.Edges.{edges-run}
 use Rattle.board_devices.proofs.Product.{Sound}
 use Rattle.board_devices.proofs.QuietRuns.{AreLines, quiet_run, state-is, joined-with}
 use Rattle.board_devices.proofs.Rises.{lifts-of_run}
-use Rattle.board_devices.proofs.Still.{levels_with, levels-first, edges-still, line_after-counted}
+use Rattle.board_devices.proofs.Still.{QuietFrom, levels_with, levels-first, edges-still, line_after-counted}
 
 -- where no level changes, no line rises
 pub still-lifts : (n from to : ℕ) (d : DeviceParts) → from ≤ to → ((j : ℕ) → from + j ≤ to → levels (run from j d).state ≡ levels d)
@@ -55,12 +55,16 @@ since from bs = map (λ b. cond b (Some from) None) bs
 
 since-levels : (from s : ℕ) (bs : List Bool) → from ≤ s → levels_at s (since from bs) ≡ bs
 since-levels from s [] le = refl
-since-levels from s (true ∷ bs) le = ap (λ (b : Bool). b ∷ levels_at s (since from bs)) (le-leb from s le) ∙ ap (λ (cs : List Bool). true ∷ cs) (since-levels from s bs le)
+since-levels from s (true ∷ bs) le = ap (λ (b : Bool). b ∷ levels_at s (since from bs)) (le-leb from s le)
+    ∙ ap (λ (cs : List Bool). true ∷ cs) (since-levels from s bs le)
 since-levels from s (false ∷ bs) le = ap (λ (cs : List Bool). false ∷ cs) (since-levels from s bs le)
 
 -- and have no edge
+abbrev edge_up : ℕ → ℕ → Edge
+edge_up t line = record { at = t; line = line; up = true }
+
 since-edge : (from to line : ℕ) (b : Bool) → edge_within from to line (cond b (Some from) None) ≡ []
-since-edge from to line true = ap (λ (b : Bool). cond (b && leb from to) (record { at = from; line = line; up = true } ∷ []) []) (le-ltb from from (omega arith))
+since-edge from to line true = ap (λ (b : Bool). cond (b && leb from to) (edge_up from line ∷ []) []) (le-ltb from from (omega arith))
 since-edge from to line false = refl
 
 since-edges : (from to : ℕ) (ns : List ℕ) (bs : List Bool) → edges_within from to ns (since from bs) ≡ []
@@ -74,10 +78,10 @@ since-length from [] = refl
 since-length from (b ∷ bs) = omega (arith, since-length from bs)
 
 -- the edge of a line that goes up
-one-edge : (from to t line : ℕ) → from < t → t ≤ to → edge_within from to line (Some t) ≡ record { at = t; line = line; up = true } ∷ []
+one-edge : (from to t line : ℕ) → from < t → t ≤ to → edge_within from to line (Some t) ≡ edge_up t line ∷ []
 one-edge from to t line behind inside =
-    ap (λ (b : Bool). cond (b && leb t to) (record { at = t; line = line; up = true } ∷ []) []) (lt-ltb from t behind)
-    ∙ ap (λ (b : Bool). cond b (record { at = t; line = line; up = true } ∷ []) []) (le-leb t to inside)
+    ap (λ (b : Bool). cond (b && leb t to) (edge_up t line ∷ []) []) (lt-ltb from t behind)
+    ∙ ap (λ (b : Bool). cond b (edge_up t line ∷ []) []) (le-leb t to inside)
 
 -- a run of whose lines the first alone may move
 pub record HasFirst (d : DeviceParts) (from to : ℕ) (first : Bool) (others : List Bool) (rise : Option ℕ) : Type 0 where
@@ -94,10 +98,10 @@ six : (from t : ℕ) (others : List Bool) → length others ≡ 5 → length (ti
 six from t others five = omega (arith, since-length from others, five)
 
 edges-within : (from to t : ℕ) (others : List Bool) → from < t → t ≤ to
-    → edges_within from to line_numbers (times from others t) ≡ record { at = t; line = 0; up = true } ∷ []
+    → edges_within from to line_numbers (times from others t) ≡ edge_up t 0 ∷ []
 edges-within from to t others behind inside =
     ap (λ (es : List Edge). es ++ edges_within from to (8 ∷ 20 ∷ 21 ∷ 22 ∷ 23 ∷ []) (since from others)) (one-edge from to t 0 behind inside)
-    ∙ ap (λ (es : List Edge). record { at = t; line = 0; up = true } ∷ es) (since-edges from to (8 ∷ 20 ∷ 21 ∷ 22 ∷ 23 ∷ []) others)
+    ∙ ap (λ (es : List Edge). edge_up t 0 ∷ es) (since-edges from to (8 ∷ 20 ∷ 21 ∷ 22 ∷ 23 ∷ []) others)
 
 module _ {d : DeviceParts} {from to : ℕ} (first : Bool) (others : List Bool) where
   -- where it goes up
@@ -117,7 +121,8 @@ module _ {d : DeviceParts} {from to : ℕ} (first : Bool) (others : List Bool) w
   first-edges (Some t) order has =
       let at : (first ≡ false) × (from < t) × (t ≤ to) = has.rises t refl in
       edges-run d (times from others t) from to (told-rise t at.0 has) (to - from) (omega (arith, order))
-      ∙ rises_of-sole from to line_numbers (times from others t) (record { at = t; line = 0; up = true }) order (sym (six from t others has.five)) (edges-within from to t others at.1 at.2)
+      ∙ rises_of-sole from to line_numbers (times from others t) (edge_up t 0) order (sym (six from t others has.five))
+      (edges-within from to t others at.1 at.2)
 
   pub first-lifts : (rise : Option ℕ) → from ≤ to → HasFirst d from to first others rise → (n : ℕ)
       → lifts n (run from (to - from) d).edges + one_if (level_of line_numbers (levels d) n)
@@ -160,9 +165,16 @@ few-ticks : (b : Bool) (m : ℕ) → cond b m 0 ≤ m
 few-ticks true m = omega arith
 few-ticks false m = omega arith
 
-module _ {d : DeviceParts} {from to : ℕ} {p : PulseCounts} (rises : Rises) (sound : Sound d) (order : from ≤ to) (pulses : ArePulses from to p)
-    (quiet : IsQuietBesidePit from to p d) (count : rises.count ≡ rises_in (counter_of d.pit 0) p.pit)
-    (first : IsFirst (rises_in (counter_of d.pit 0)) p.pit rises.first) where
+-- what is known of a stretch in which the 8254 alone may tick
+pub record IsTicking (d : DeviceParts) (from to : ℕ) (p : PulseCounts) (rises : Rises) : Type 0 where
+  pub sound : Sound d
+  pub order : from ≤ to
+  pub pulses : ArePulses from to p
+  pub quiet : IsQuietBesidePit from to p d
+  pub count : rises.count ≡ rises_in (counter_of d.pit 0) p.pit
+  pub first : IsFirst (rises_in (counter_of d.pit 0)) p.pit rises.first
+
+module _ {d : DeviceParts} {from to : ℕ} {p : PulseCounts} {rises : Rises} (known : IsTicking d from to p rises) where
   -- the ticks of line 0, and when it goes up
   abbrev pub ticks : ℕ
   ticks = cond (not (is_legacy d.hpet)) rises.count 0
@@ -170,15 +182,19 @@ module _ {d : DeviceParts} {from to : ℕ} {p : PulseCounts} (rises : Rises) (so
   abbrev pub rise : Option ℕ
   rise = cond ((line_at 0 d).up || is_legacy d.hpet) None (first_at PIT_HZ from rises.first)
 
+  -- nothing else moves a line
+  others_quiet : QuietFrom 1 d from (to - from) ((from / d.slew_ns + 1) * d.slew_ns - from)
+  others_quiet = quiet_run 1 (omega arith) known.sound known.order known.pulses (λ e. absurd (omega (arith, e))) known.quiet
+
   first-line : (j : ℕ) → j ≤ to - from → line_run d from j 0 (line_at 0 d) ≡ ticked_times (source d from 0 j) (line_at 0 d)
-  first-line j le = line_after-counted (quiet_run 1 (omega arith) sound order pulses (λ e. absurd (omega (arith, e))) quiet) 0 (omega arith) j le
+  first-line j le = line_after-counted others_quiet 0 (omega arith) j le
 
   pub lines-ticked : (ls : List TickParts) → length ls ≡ 10 → get_or ls 0 no_line ≡ ticked_times ticks (line_at 0 d)
       → ((k : ℕ) → k ≢ 0 → get_or ls k no_line ≡ line_at k d) → AreLines d from (to - from) ls
   lines-ticked ls places here others = record {
     places = places;
     first = here
-        ∙ ap (λ (m : ℕ). ticked_times (cond (not (is_legacy d.hpet)) m 0) (line_at 0 d)) (count ∙ ap (rises_in (counter_of d.pit 0)) pulses.pit)
+        ∙ ap (λ (m : ℕ). ticked_times (cond (not (is_legacy d.hpet)) m 0) (line_at 0 d)) (known.count ∙ ap (rises_in (counter_of d.pit 0)) known.pulses.pit)
         ∙ sym (first-line (to - from) (omega arith));
     others = others;
   }
@@ -186,7 +202,7 @@ module _ {d : DeviceParts} {from to : ℕ} {p : PulseCounts} (rises : Rises) (so
   -- when the first rise comes
   risen : (j : ℕ) → j ≤ to - from → ltb 0 (rises_in (counter_of d.pit 0) (pulses_from PIT_HZ from j)) ≡ is_up_at (from + j) (first_at PIT_HZ from rises.first)
   risen = event-up (rises_in (counter_of d.pit 0)) PIT_HZ from (to - from) rises.first (omega arith) (CountsUp-rises_in (counter_of d.pit 0))
-      (rw pulses.pit at first)
+      (rw known.pulses.pit at known.first)
 
   first-level : (j : ℕ) → j ≤ to - from → cond (is_legacy d.hpet) (output_of 0 d) (line_run d from j 0 (line_at 0 d)).up
       ≡ (cond (is_legacy d.hpet) (output_of 0 d) (line_at 0 d).up || is_up_at (from + j) rise)
@@ -208,8 +224,8 @@ module _ {d : DeviceParts} {from to : ℕ} {p : PulseCounts} (rises : Rises) (so
 
   told : (j : ℕ) → from + j ≤ to → levels (run from j d).state ≡ (level || is_up_at (from + j) rise) ∷ others
   told j le =
-      levels-first (quiet_run 1 (omega arith) sound order pulses (λ e. absurd (omega (arith, e))) quiet) j (omega (arith, le, order))
-      ∙ ap (λ (b : Bool). b ∷ others) (first-level j (omega (arith, le, order)))
+      levels-first others_quiet j (omega (arith, le, known.order))
+      ∙ ap (λ (b : Bool). b ∷ others) (first-level j (omega (arith, le, known.order)))
 
   pub has_first : (by_end : (t : ℕ) → rise ≡ Some t → t ≤ to) → HasFirst d from to level others rise
   has_first by_end = record {
@@ -239,20 +255,20 @@ module _ {d : DeviceParts} {from to : ℕ} {p : PulseCounts} (rises : Rises) (so
   }
 
   pub ticked-joined : (ls : List TickParts) → AreLines d from (to - from) ls → IsDevices (ticked_with ls)
-  ticked-joined ls lines = joined-with 1 (omega arith) sound order pulses (λ e. absurd (omega (arith, e))) quiet ls lines
+  ticked-joined ls lines = joined-with 1 (omega arith) known.sound known.order known.pulses (λ e. absurd (omega (arith, e))) known.quiet ls lines
 
   pub ticked : (ls : List TickParts) → AreLines d from (to - from) ls → get_or ls 0 no_line ≡ ticked_times ticks (line_at 0 d)
       → rises.count ≤ to - from → ((t : ℕ) → rise ≡ Some t → t ≤ to) → HasTicked from to d (ticked_with ls) rise
   ticked ls lines here few by_end = record {
     state = state;
-    edges = first-edges level others rise order (has_first by_end);
+    edges = first-edges level others rise known.order (has_first by_end);
     due = due;
-    lifts = λ n. first-lifts level others rise order (has_first by_end) n
+    lifts = λ n. first-lifts level others rise known.order (has_first by_end) n
         ∙ ap (λ (e : DeviceParts). one_if (level_of line_numbers (levels e) n)) (sym state);
   }
     where
       state : ticked_with ls ≡ (run from (to - from) d).state
-      state = state-is 1 (omega arith) sound order pulses (λ e. absurd (omega (arith, e))) quiet ls lines
+      state = state-is 1 (omega arith) known.sound known.order known.pulses (λ e. absurd (omega (arith, e))) known.quiet ls lines
 
       due : (k : ℕ) → k < 10 → (get_or ls k no_line).counts.due ≤ (line_at k d).counts.due + (to - from)
       due zero less =

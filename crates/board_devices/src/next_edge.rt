@@ -14,6 +14,7 @@ ghost use Rattle.std.specs.Prelude.{
   if◌then◌else◌,
 };
 ghost use Rattle.clk_units.specs.Bits.{bit};
+ghost use Rattle.clk_units.specs.Events.{first_at};
 ghost use Rattle.pit_readback.specs.declared.TheConstants.{PIT_HZ};
 ghost use Rattle.rtc_registers.specs.declared.TheConstants.{RTC_HZ};
 ghost use Rattle.hpet_registers.specs.declared.hpet.TheConstants.{HPET_HZ};
@@ -55,7 +56,7 @@ use hpet_registers::{HPET_HZ, Hpet};
 use irq_edges::next_rise;
 use pit_readback::{PIT_HZ, Pit};
 use rtc_registers::{RTC_HZ, Rtc};
-use tick_policy::up_from;
+use tick_policy::{TickLine, up_from};
 
 /// How far an edge is looked for at first (own).
 const SOON_NS: u64 = 1 << 26;
@@ -179,8 +180,7 @@ impl Devices {
         if line.is_up() {
             return Some(span.from);
         }
-        let first = first_at(first_rise(&self.pit, n), PIT_HZ, span.from, span.to);
-        up_from(line, span.from, span.to, span.point, first)
+        up_by(line, first_rise(&self.pit, n), PIT_HZ, span)
     }
 
     /// From when on the tick line of the MC146818 is up.
@@ -198,8 +198,7 @@ impl Devices {
         if !counts_rtc(self.rtc.pie(), self.hpet.legacy()) {
             return None;
         }
-        let first = first_at(first_tick(&self.rtc, n), RTC_HZ, span.from, span.to);
-        up_from(line, span.from, span.to, span.point, first)
+        up_by(line, first_tick(&self.rtc, n), RTC_HZ, span)
     }
 
     /// From when on IRQF is up: with its other interrupts disabled, as most guests leave them, that is
@@ -281,9 +280,23 @@ impl Devices {
         if !self.hpet.has_ticks(k) {
             return up_from(line, span.from, span.to, span.point, None);
         }
-        let first = first_at(first_match(&self.hpet, k, n), HPET_HZ, span.from, span.to);
-        up_from(line, span.from, span.to, span.point, first)
+        up_by(line, first_match(&self.hpet, k, n), HPET_HZ, span)
     }
+}
+
+/// From when on a tick line is up. `first` is the pulse of its device in the stretch that brings the first tick, counted
+/// from 1, or none does.
+#[inline(always)]
+fn up_by(line: &TickLine, first: Option<u64>, hz: u64, span: Span) -> Option<u64>
+    requires runs { 0 < hz }
+    requires slow { hz ≤ 1000000000 }
+    requires order { span.from ≤ span.to }
+    requires range { span.to < 2 ^ 59 }
+    requires inside { IfSome first (λ j. j ≤ pulses_of hz span) }
+    ensures { result ≡ up_from span.from span.point span.to (first_at hz span.from first) line.now }
+{
+    let first = first_at(first, hz, span.from, span.to);
+    up_from(line, span.from, span.to, span.point, first)
 }
 
 /// Which of `n` pulses of the 8254, counted from 1, is the first at which OUT of counter 0 rises.

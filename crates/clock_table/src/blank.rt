@@ -46,7 +46,7 @@ impl Blank {
         ensures joined { IsJoined state.now }
     {
         let _processors = state.processors();
-        let _cpus = state.cpus();
+        state.joined();
         let words = laid(alloc, state)?;
         match Words::of_words(alloc, &words, state) {
             Ok((table, seat)) => Ok(Blank { table, seat }),

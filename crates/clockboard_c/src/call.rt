@@ -142,8 +142,7 @@ fn count(board: &mut Board, cpu: u8, host: u64, access: Access, reply: &mut Repl
     requires counted { IsCounted board.old.state board.old.lag host }
     ensures { HasAnswered board.old board.new reply.old reply.new cpu host access }
 {
-    // The call gives with the processors what joins the parts of a board.
-    let _ = board.state.cpus();
+    board.state.joined();
     let later = board.state.count(&mut board.lag, host);
     let now_ns = move_now(&mut board.now_ns, &board.state, &board.lag, later);
     let number = board.state.accesses();
@@ -172,8 +171,7 @@ fn run(board: &mut Board, cpu: u8, host: u64, access: Access, reply: &mut ReplyW
     requires { IsTaken (seen board.old).state cpu access }
     ensures { HasAnswered board.old board.new reply.old reply.new cpu host access }
 {
-    // The call gives with the processors what joins the parts of a board.
-    let _ = board.state.cpus();
+    board.state.joined();
     let mut answered = Reply::empty();
     let taken = board
         .state

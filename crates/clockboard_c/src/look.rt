@@ -123,8 +123,7 @@ fn tsc_words(state: &BoardState, cpu: u8) -> TscWords
     requires { cpu < state.now.cpus }
     ensures { result ≡ tsc_words state.now cpu }
 {
-    // The call gives with the processors what joins the parts of a board.
-    let _ = state.cpus();
+    state.joined();
     let khz = state.guest_khz();
     TscWords {
         offset: state.tsc(cpu).offset,

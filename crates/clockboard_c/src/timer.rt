@@ -120,8 +120,7 @@ fn anchor_of(state: &BoardState) -> Anchor
     ensures value { result ≡ state.now.anchor }
     ensures rate { IsKhz result.khz }
 {
-    // The call gives with the processors what joins the parts of a board.
-    let _ = state.cpus();
+    state.joined();
     state.anchor()
 }
 

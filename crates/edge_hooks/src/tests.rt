@@ -40,7 +40,6 @@ fn rises_are_delivered_in_order_and_falls_are_not(rt: HostRuntime) {
         },
     ];
     assert_eq!(rt; deliveries.as_slice(), wanted.as_slice());
-    assert_eq!(rt; deliveries.copy(), deliveries);
     assert_eq!(rt; (deliveries.len(), deliveries.is_empty()), (3, false));
     assert!(rt; hooks.deliver(&EdgeList::new()).is_empty());
 }
@@ -94,7 +93,6 @@ fn each_burst_is_sent_with_its_message(rt: HostRuntime) {
         },
     ];
     assert_eq!(rt; sent.as_slice(), wanted.as_slice());
-    assert_eq!(rt; sent.copy(), sent);
     assert_eq!(rt; (sent.len(), sent.is_empty()), (2, false));
     assert!(rt; hooks.send(&BurstList::new()).is_empty());
 }

@@ -6,4 +6,3 @@ mod Rows
 pub mod OfLines
 pub mod Rising
 pub mod Sole
-pub mod Places

@@ -23,11 +23,13 @@ mod bursts;
 mod edges;
 mod lines;
 mod rises;
+mod short_list;
 
 pub use bursts::{BURST_PLACES, Burst, BurstList};
 pub use edges::{EDGE_PLACES, Edge, EdgeList};
 pub use lines::{LINE_NUMBERS, Lines, changes, is_line};
 pub use rises::{emit, lines_at, next_rise};
+pub use short_list::ShortList;
 
 #[cfg(test)]
 mod tests;

@@ -137,11 +137,24 @@ pub fn take_and_plan(plan: &mut Plan, p: &mut CounterParts, n: u64) -> Rises
     ensures taken { HasTaken n p.old p.new result }
     ensures planned { plan.new ≡ plan_of p.new }
 {
-    if let Some(period) = period_of(plan, p) {
-        let rises = divide(p, period, n);
-        *plan = rate_plan(p, period);
-        return rises;
+    match period_of(plan, p) {
+        Some(period) => {
+            let rises = divide(p, period, n);
+            *plan = rate_plan(p, period);
+            rises
+        }
+        None => take_any(plan, p, n),
     }
+}
+
+/// The same of a counter that doesn't divide.
+// Called last, and apart: a counter that divides saves no registers for it.
+#[inline(never)]
+fn take_any(plan: &mut Plan, p: &mut CounterParts, n: u64) -> Rises
+    requires { IsCounter p.old }
+    ensures taken { HasTaken n p.old p.new result }
+    ensures planned { plan.new ≡ plan_of p.new }
+{
     let rises = take_pulses(p, n);
     *plan = plan_of(p);
     rises

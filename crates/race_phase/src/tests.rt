@@ -4,10 +4,8 @@ ghost use Rattle.std.specs.Prelude.{◌≡◌};
 use super::*;
 use board_core::{Access, BoardState, Refusal, Setup};
 use clk_units::RANGE_NS;
-use host_counter::{Anchor, TimeFault};
-use rtc_calendar::TimeBytes;
+use host_counter::TimeFault;
 use std::test::*;
-use tick_policy::Policy;
 use transfer::MoveFault;
 
 /// A host of 1 GHz, which counts nanoseconds from 0, and one processor.
@@ -15,31 +13,7 @@ fn board() -> BoardState
     ensures cpus { result.cpus ≡ 1 }
     ensures format { result.format ≡ 1 }
 {
-    BoardState::power_on(&Setup {
-        format: 1,
-        anchor: Anchor {
-            khz: 1_000_000,
-            start: 0,
-            base_ns: 0,
-        },
-        guest_khz: 2_000_000,
-        cpus: 1,
-        pit: Policy::Delay,
-        rtc: Policy::Delay,
-        hpet: Policy::Delay,
-        slew_ns: 1_000_000,
-        wall_sec: 0,
-        wall_nsec: 0,
-        time: TimeBytes {
-            sec: 0,
-            min: 0,
-            hour: 0,
-            wday: 1,
-            date: 1,
-            month: 1,
-            year: 0,
-        },
-    })
+    BoardState::power_on(&Setup::by_default(1))
 }
 
 #[test]

@@ -45,7 +45,7 @@ pub struct CountedLines {
     text: [u8; ROOM],
     start: usize,
     end: usize,
-    /// .. and that of the last edge's line.
+    /// The beginning of the last edge's line, which is kept for the next.
     edges: EdgeFront,
 }
 

@@ -2,6 +2,7 @@ ghost use Rattle.std.specs.Prelude.{◌+◌, ◌*◌, ◌<◌, ◌≤◌};
 
 use super::*;
 use crate::updates::updated;
+use std::process::Abort;
 
 /// Binary numbers, 24 hours.
 const BINARY: Form = Form {
@@ -41,49 +42,38 @@ fn time(bytes: [u8; 7]) -> TimeBytes {
     }
 }
 
+/// The same, as two hexadecimal digits for each.
+fn spelt(digits: u64) -> TimeBytes {
+    let [_, sec, min, hour, wday, date, month, year] = digits.to_be_bytes();
+    time([sec, min, hour, wday, date, month, year])
+}
+
+/// One update takes a time from `before` to `then`, and none leaves it.
+fn updates_once(rt: &impl Abort, form: Form, before: TimeBytes, then: TimeBytes) {
+    assert_eq!(rt; after(before, form, 1), then, "from {before:?}");
+    assert_eq!(rt; after(before, form, 0), before);
+}
+
 #[test]
 fn one_update_carries_to_the_year(rt: HostRuntime) {
-    let cases = [
+    let binary = [
         (BINARY, [59, 59, 23, 7, 31, 12, 99], [0, 0, 0, 1, 1, 1, 0]),
-        (
-            BCD,
-            [0x59, 0x59, 0x23, 7, 0x31, 0x12, 0x99],
-            [0, 0, 0, 1, 1, 1, 0],
-        ),
-        (
-            BCD_12,
-            [0x59, 0x59, 0x91, 7, 0x31, 0x12, 0x99],
-            [0, 0, 0x12, 1, 1, 1, 0],
-        ),
-        (
-            BINARY_12,
-            [59, 59, 11, 3, 5, 6, 7],
-            [0, 0, 0x8c, 3, 5, 6, 7],
-        ),
+        (BINARY_12, [59, 59, 11, 3, 5, 6, 7], [0, 0, 140, 3, 5, 6, 7]),
         (BINARY_12, [59, 59, 12, 3, 5, 6, 7], [0, 0, 1, 3, 5, 6, 7]),
-        (
-            BCD_12,
-            [0x59, 0x59, 0x92, 3, 5, 6, 7],
-            [0, 0, 0x81, 3, 5, 6, 7],
-        ),
-        (
-            BCD,
-            [0x09, 0x59, 0x19, 3, 5, 6, 7],
-            [0x10, 0x59, 0x19, 3, 5, 6, 7],
-        ),
-        (
-            BCD,
-            [0x59, 0x09, 0x19, 3, 5, 6, 7],
-            [0, 0x10, 0x19, 3, 5, 6, 7],
-        ),
-        (
-            BCD,
-            [0x59, 0x59, 0x19, 3, 5, 6, 7],
-            [0, 0, 0x20, 3, 5, 6, 7],
-        ),
     ];
-    for (form, before, then) in cases {
-        assert_eq!(rt; after(time(before), form, 1), time(then), "from {before:?}");
+    for (form, before, then) in binary {
+        updates_once(&rt, form, time(before), time(then));
+    }
+    let bcd = [
+        (BCD, 0x59_59_23_07_31_12_99, 0x00_00_00_01_01_01_00),
+        (BCD_12, 0x59_59_91_07_31_12_99, 0x00_00_12_01_01_01_00),
+        (BCD_12, 0x59_59_92_03_05_06_07, 0x00_00_81_03_05_06_07),
+        (BCD, 0x09_59_19_03_05_06_07, 0x10_59_19_03_05_06_07),
+        (BCD, 0x59_09_19_03_05_06_07, 0x00_10_19_03_05_06_07),
+        (BCD, 0x59_59_19_03_05_06_07, 0x00_00_20_03_05_06_07),
+    ];
+    for (form, before, then) in bcd {
+        updates_once(&rt, form, spelt(before), spelt(then));
     }
 }
 
@@ -107,7 +97,7 @@ fn every_fourth_year_has_a_leap_day(rt: HostRuntime) {
 
 #[test]
 fn invalid_bytes_count_as_their_lowest_value(rt: HostRuntime) {
-    let cases = [
+    let binary = [
         (BINARY, [60, 60, 24, 8, 32, 13, 100], [1, 0, 0, 1, 1, 1, 0]),
         (BINARY, [255, 255, 255, 0, 0, 0, 255], [1, 0, 0, 1, 1, 1, 0]),
         (
@@ -117,93 +107,56 @@ fn invalid_bytes_count_as_their_lowest_value(rt: HostRuntime) {
         ),
         (
             BINARY_12,
-            [58, 59, 0x80, 7, 31, 4, 99],
+            [58, 59, 128, 7, 31, 4, 99],
             [59, 59, 12, 7, 1, 4, 99],
         ),
-        (
-            BCD,
-            [0x5a, 0x60, 0x24, 0x08, 0x1a, 0x13, 0xa0],
-            [1, 0, 0, 1, 1, 1, 0],
-        ),
-        (
-            BCD,
-            [0x0f, 0xff, 0x1a, 0x00, 0x32, 0x0a, 0x9a],
-            [1, 0, 0, 1, 1, 1, 0],
-        ),
-        (
-            BCD_12,
-            [0x58, 0x59, 0x93, 7, 0x29, 2, 4],
-            [0x59, 0x59, 0x12, 7, 0x29, 2, 4],
-        ),
-        (
-            BCD_12,
-            [0x58, 0x59, 0x0a, 7, 0x30, 2, 4],
-            [0x59, 0x59, 0x12, 7, 1, 2, 4],
-        ),
     ];
-    for (form, before, then) in cases {
-        assert_eq!(rt; after(time(before), form, 1), time(then), "from {before:?}");
-        assert_eq!(rt; after(time(before), form, 0), time(before));
+    for (form, before, then) in binary {
+        updates_once(&rt, form, time(before), time(then));
     }
+    let bcd = [
+        (BCD, 0x5a_60_24_08_1a_13_a0, 0x01_00_00_01_01_01_00),
+        (BCD, 0x0f_ff_1a_00_32_0a_9a, 0x01_00_00_01_01_01_00),
+        (BCD_12, 0x58_59_93_07_29_02_04, 0x59_59_12_07_29_02_04),
+        (BCD_12, 0x58_59_0a_07_30_02_04, 0x59_59_12_07_01_02_04),
+    ];
+    for (form, before, then) in bcd {
+        updates_once(&rt, form, spelt(before), spelt(then));
+    }
+}
+
+/// An alarm at these seconds, minutes and hours.
+fn alarm(bytes: [u8; 3]) -> Alarm {
+    let [sec, min, hour] = bytes;
+    Alarm { sec, min, hour }
 }
 
 #[test]
 fn the_alarm_matches(rt: HostRuntime) {
     let midnight = time([0, 0, 0, 1, 1, 1, 0]);
-    let at_five = Alarm {
-        sec: 0xc0,
-        min: 0xc0,
-        hour: 5,
-    };
-    assert_eq!(rt;
-        first_match(midnight, BINARY, at_five, 20_000),
-        Some(18_000)
-    );
-    assert_eq!(rt; first_match(midnight, BINARY, at_five, 17_999), None);
-    let never = Alarm {
-        sec: 60,
-        min: 0xc0,
-        hour: 0xc0,
-    };
-    assert_eq!(rt; first_match(midnight, BINARY, never, 200_000), None);
-    let now = Alarm {
-        sec: 0,
-        min: 0,
-        hour: 0,
-    };
-    assert_eq!(rt; first_match(midnight, BINARY, now, 86_400), Some(86_400));
-    assert_eq!(rt; first_match(midnight, BINARY, now, 86_399), None);
-    assert!(rt; matches(midnight, now));
-    assert!(rt;
-        matches(
-            midnight,
-            Alarm {
-                sec: 0xff,
-                min: 0xc0,
-                hour: 0
-            }
-        )
-    );
-    assert!(rt;
-        !matches(
-            midnight,
-            Alarm {
-                sec: 0,
-                min: 0xbf,
-                hour: 0
-            }
-        )
-    );
-    assert!(rt;
-        !matches(
-            midnight,
-            Alarm {
-                sec: 0,
-                min: 0,
-                hour: 1
-            }
-        )
-    );
+    let searches = [
+        ([0xc0, 0xc0, 5], 20_000, Some(18_000)),
+        ([0xc0, 0xc0, 5], 17_999, None),
+        ([60, 0xc0, 0xc0], 200_000, None),
+        ([0, 0, 0], 86_400, Some(86_400)),
+        ([0, 0, 0], 86_399, None),
+    ];
+    for (bytes, n, first) in searches {
+        assert_eq!(rt;
+            first_match(midnight, BINARY, alarm(bytes), n),
+            first,
+            "{bytes:?} in {n} updates"
+        );
+    }
+    let at_midnight = [
+        ([0, 0, 0], true),
+        ([0xff, 0xc0, 0], true),
+        ([0, 0xbf, 0], false),
+        ([0, 0, 1], false),
+    ];
+    for (bytes, matched) in at_midnight {
+        assert_eq!(rt; matches(midnight, alarm(bytes)), matched, "{bytes:?}");
+    }
 }
 
 /// The plain programs that the definitions describe, which go from update to update.
@@ -350,11 +303,7 @@ fn years_go_by_at_once(rt: HostRuntime) {
         assert_eq!(rt; after(new_century, form, n), time(then), "{n} updates");
     }
     // an alarm that a day of updates doesn't match never does
-    let never = Alarm {
-        sec: 0xc0,
-        min: 60,
-        hour: 0xc0,
-    };
+    let never = alarm([0xc0, 60, 0xc0]);
     for n in [86_400, 1 << 40] {
         assert_eq!(rt; first_match(new_century, BINARY, never, n), None);
     }

@@ -1,5 +1,5 @@
 -- Stretches that bring no event, by what the bodies test.
-use Rattle.std.proofs.Common.{◌≡◌, ℕ, ◌+◌, ◌-◌, ◌/◌, ◌^◌, ◌<◌, true, false, not, eqb}
+use Rattle.std.proofs.Common.{◌≡◌, ℕ, ◌+◌, ◌-◌, ◌/◌, ◌^◌, ◌<◌, true, not, eqb}
 use Rattle.std.proofs.Common.{inl, inr, refl, sym, ap, ◌∙◌, arith}
 use Rattle.std.proofs.lemmas.Bool.{cases_eq, cases_Bool, eq-eqb, lt-ltb, both_ways, not-true}
 use Rattle.rtc_cycle.specs.declared.parts.DividerParts.{DividerParts}
@@ -37,7 +37,3 @@ updates_in-before p valid n less = elim (cases_eq p.dv 2) [
   ]
   | inr held ↦ updates_in-none n p valid (λ runs _. held runs)
 ]
-
--- nor is it within the second, with no cycle in progress
-pub updates_in-within : (n : ℕ) (p : DividerParts) → IsDivider p → p.cycle ≡ false → p.d + n < 32768 → updates_in p n ≡ 0
-updates_in-within n p valid idle within = updates_in-before p valid n (rw idle (omega arith))

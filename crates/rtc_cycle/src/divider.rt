@@ -1,6 +1,6 @@
 //! The divider as a device: pulses go in, events come out.
 
-ghost use Rattle.std.specs.Prelude.{◌≡◌, ℕ, ◌+◌, ◌<◌, ◌≤◌, ◌↔◌, true, false, IsSome, IfSome};
+ghost use Rattle.std.specs.Prelude.{◌≡◌, ℕ, ◌<◌, ◌≤◌, ◌↔◌, true, false, IsSome, IfSome};
 ghost use Rattle.clk_units.specs.Events.{IsFirst};
 ghost use Rattle.rtc_cycle.specs.Divider.{with_dv, with_rate, with_set, uip_of, pulsed_times};
 ghost use Rattle.rtc_cycle.specs.Divider.{ticks_in, updates_in, frequency, RunsCycles};
@@ -162,23 +162,5 @@ impl Divider {
         ensures { result ≡ true → ticks_in self.now n ≡ 0 }
     {
         stretch::has_no_tick(self.parts, n)
-    }
-
-    /// Whether `n` pulses end no update cycle, as far as that shows without DV and SET.
-    #[inline(always)]
-    pub fn has_no_update(&self, n: u64) -> bool
-        ensures { result ≡ true → updates_in self.now n ≡ 0 }
-    {
-        stretch::has_no_update(self.parts, n)
-    }
-
-    /// Whether over `n` pulses the count alone moves: the divider runs, no update cycle is in progress, and no second begins.
-    #[inline(always)]
-    pub fn only_counts(&self, n: u64) -> bool
-        ensures place { result ≡ true → self.now.d + n < 32768 }
-        ensures state { result ≡ true → pulsed_times n self.now ≡ record self.now { d = self.now.d + n } }
-        ensures updates { result ≡ true → updates_in self.now n ≡ 0 }
-    {
-        stretch::only_counts(self.parts, n)
     }
 }

@@ -133,23 +133,3 @@ pub(crate) fn has_no_tick(p: DividerParts, n: u64) -> bool
     let bits = period_bits(p.rs);
     n <= 0xffff && (p.d as u64 + n) >> bits == p.d as u64 >> bits
 }
-
-/// Whether `n` pulses, if update cycles end, are less than those up to the end of one.
-#[inline(always)]
-pub(crate) fn has_no_update(p: DividerParts, n: u64) -> bool
-    requires { IsDivider p }
-    ensures { result ≡ true → updates_in p n ≡ 0 }
-{
-    n < pulses_to_end(p) as u64
-}
-
-/// Whether a divider that runs, with no cycle in progress, stays within the second over `n` pulses.
-#[inline(always)]
-pub(crate) fn only_counts(p: DividerParts, n: u64) -> bool
-    requires { IsDivider p }
-    ensures place { result ≡ true → p.d + n < 32768 }
-    ensures state { result ≡ true → stretched n p ≡ record p { d = p.d + n } }
-    ensures updates { result ≡ true → updates_in p n ≡ 0 }
-{
-    p.dv == RUNNING && !p.cycle && n < (PULSES - p.d) as u64
-}

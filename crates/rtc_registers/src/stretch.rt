@@ -77,8 +77,8 @@ fn take_ticks(r: &mut RtcParts, divider: DividerParts)
     move_divider(r, divider);
 }
 
-/// The divider moves on, and events change time bytes and register C; the first update that the alarm matches. Where no
-/// event falls the divider alone moves, and where no update does it and PF.
+/// The divider moves on. Ticks set PF; updates change the time bytes and register C. The result is the first update that the
+/// alarm matches.
 fn take_events(r: &mut RtcParts, divider: DividerParts, cycle: &CycleEvents) -> Option<u64>
     requires { IsRtc r.old }
     ensures matched { IsFirst (matches_in (form_of r.old) (alarm_of r.old) (time_of r.old))

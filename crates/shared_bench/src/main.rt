@@ -17,15 +17,12 @@ use alone::{Row, asked, core_alone, core_kept, on_shared, reading_alone};
 use board_core::{Access, BoardState, Setup};
 use clock_table::Blank;
 use crowd::{Kind, crowded};
-use host_counter::Anchor;
-use rtc_calendar::TimeBytes;
 use std::alloc::{AllocError, Global};
 use std::marker::Brand;
 use std::rt::Clock;
 use std::sync::Wait;
 use std::thread::Threads;
 use std::{env, io};
-use tick_policy::Policy;
 
 /// How the program is called.
 const USAGE: &str = "usage: shared_bench time|page|reading|access|core|answer|kept [nothing]";
@@ -117,29 +114,5 @@ fn blank(alloc: Global, state: &BoardState) -> Result<Blank, AllocError>
 fn board() -> BoardState
     ensures { result.cpus ≡ 1 }
 {
-    BoardState::power_on(&Setup {
-        format: 1,
-        anchor: Anchor {
-            khz: 1_000_000,
-            start: 0,
-            base_ns: 0,
-        },
-        guest_khz: 1_000_000,
-        cpus: 1,
-        pit: Policy::Delay,
-        rtc: Policy::Delay,
-        hpet: Policy::Delay,
-        slew_ns: 1_000_000,
-        wall_sec: 0,
-        wall_nsec: 0,
-        time: TimeBytes {
-            sec: 0,
-            min: 0,
-            hour: 0,
-            wday: 7,
-            date: 1,
-            month: 1,
-            year: 0,
-        },
-    })
+    BoardState::power_on(&Setup::by_default(1))
 }

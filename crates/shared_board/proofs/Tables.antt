@@ -21,7 +21,7 @@ use Rattle.shared_board.specs.declared.fault.PageFault.{PageFault}
 use Rattle.shared_board.specs.declared.fault.PageFault.TheVariants.{NoTime, Again}
 use Rattle.shared_board.specs.declared.fault.LockedFault.{LockedFault}
 use Rattle.shared_board.specs.declared.known.PassKnown.{PassKnown}
-use Rattle.shared_board.specs.Passes.{Made, Answered, Missed}
+use Rattle.shared_board.specs.Passes.{Made, Missed}
 use Rattle.shared_board.specs.Pages.{HadRoom, PageWasRead, HasTriedPage, HasLockedPage, HasReadPage}
 use Rattle.shared_board.specs.Hv.{HvWasRead, HasTriedHv, HasLockedHv, HasReadHv}
 use Rattle.shared_board.specs.private.Seats.{known, IsAtRest, IsBelow, IsApplied}
@@ -32,7 +32,7 @@ use Rattle.clock_table.specs.declared.call.Asked.{Asked}
 use Rattle.board_types.specs.declared.reply.Reply.{Reply}
 use Rattle.board_core.specs.Access.{after_access}
 use Rattle.board_history.proofs.Pages.{machine_of-access, page_published-legal}
-use Rattle.shared_board.proofs.Made.{made_of, made_late, heard_made, missed_rests}
+use Rattle.shared_board.proofs.Made.{made_late, heard_made, missed_rests}
 
 -- a read without the lock
 pub try_known : (s : BoardParts) (n k h : ℕ) (page : Page) (v w : View) → IsAtRest n v → HasHeard s.cpus k h page v w
@@ -61,12 +61,6 @@ try_rests (Err (NoTime fault)) anchor c m n k h v w rest low ok err =
 try_rests (Err (Again first second)) anchor c m n k h v w rest low ok err =
     let missed = err.1.missed in
     (missed_rests n k first second v w rest missed, below_as m v w (ap (λ u. u.limit) missed) (ap (λ u. u.seen) missed) low)
-
--- a read under the lock
-pub locked_answered : (s : BoardParts) (k h : ℕ) (page : Page) (p q : PassKnown) → Answered p q (read_of s.cpus p.number k h page true)
-    → version_after p.seen k ≤ page.version → HadRoom (read_of s.cpus p.number k h page true) q.seen → HasLockedTable s k h page p q
-locked_answered s k h page p q a least room =
-    record { read = record { made = made_of p q (read_of s.cpus p.number k h page true) a; least = least }; misses = a.misses; room = room }
 
 -- a read under the lock after a try that met an update
 pub read_late : (s : BoardParts) (k h : ℕ) (page : Page) (first second : ℕ) (p q r : PassKnown) → Missed k first second p q

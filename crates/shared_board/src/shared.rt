@@ -1,8 +1,7 @@
 //! The board that threads share.
-ghost use Rattle.std.specs.Prelude.{◌≡◌, ◌<◌, ◌≤◌, ◌↔◌, [], IfOk, IfErr, OnOk, IsErr, vec_len};
+ghost use Rattle.std.specs.Prelude.{◌≡◌, ◌<◌, ◌≤◌, ◌↔◌, [], IfOk, IfErr, IsErr, vec_len};
 ghost use Rattle.board_types.specs.Reply.{IsFresh};
 ghost use Rattle.board_types.specs.declared.setup.TheConstants.{HV_FORMAT};
-ghost use Rattle.board_core.specs.Time.{HasTime};
 ghost use Rattle.board_history.specs.Machine.{ratio_in};
 ghost use Rattle.board_history.specs.declared.entry.Entry.TheVariants.{Board};
 ghost use Rattle.shared_board.specs.Asks.{MayAsk, WasAsked};
@@ -17,6 +16,7 @@ ghost use Rattle.shared_board.specs.Pages.{
 };
 ghost use Rattle.shared_board.specs.Hv.{HasTriedHv, HasLockedHv, HasReadHv};
 ghost use Rattle.shared_board.specs.Faults.{IsPageFault, IsLockedFault, IsReadFault};
+ghost use Rattle.shared_board.specs.Reads.{ReadTold};
 ghost use Rattle.shared_board.specs.Stops.{StopTold, newcomers};
 ghost use Rattle.shared_board.specs.private.Seats.{IsLastRead, HasClamped};
 ghost use Rattle.shared_board.specs.private.Tables.{HasTriedTable, HasLockedTable, HasReadTable};
@@ -209,9 +209,8 @@ impl<N: Name> SharedBoard<N> {
     #[inline(always)]
     fn try_table(&self, pass: &mut Pass<N>, index: u8, h: u64) -> Result<Page, PageFault>
         requires index { index ≤ N.state.cpus }
-        ensures time { OnOk result (HasTime N.state.anchor h) }
-        ensures ok { IfOk result (λ page. HasTriedTable N.state index h page pass.old pass.new) }
-        ensures err { IfErr result (λ f. IsPageFault N.state.anchor index h f pass.old pass.new) }
+        ensures { ReadTold N.state h result (HasTriedTable N.state index h)
+            (IsPageFault N.state.anchor index h) pass.old pass.new }
     {
         try_table_on(&self.table, &self.host, &mut pass.seat, index, h)
     }
@@ -225,9 +224,8 @@ impl<N: Name> SharedBoard<N> {
         h: u64,
     ) -> Result<Page, LockedFault>
         requires index { index ≤ N.state.cpus }
-        ensures time { OnOk result (HasTime N.state.anchor h) }
-        ensures ok { IfOk result (λ page. HasLockedTable N.state index h page pass.old pass.new) }
-        ensures err { IfErr result (λ f. IsLockedFault N.state.anchor h f pass.old pass.new) }
+        ensures { ReadTold N.state h result (HasLockedTable N.state index h)
+            (IsLockedFault N.state.anchor h) pass.old pass.new }
     {
         if let Err(fault) = self.host.check(h) {
             return Err(LockedFault::NoTime(fault));
@@ -248,9 +246,8 @@ impl<N: Name> SharedBoard<N> {
         h: u64,
     ) -> Result<Page, LockedFault>
         requires index { index ≤ N.state.cpus }
-        ensures time { OnOk result (HasTime N.state.anchor h) }
-        ensures ok { IfOk result (λ page. HasReadTable N.state index h page pass.old pass.new) }
-        ensures err { IfErr result (λ f. IsReadFault N.state.anchor index h f pass.old pass.new) }
+        ensures { ReadTold N.state h result (HasReadTable N.state index h)
+            (IsReadFault N.state.anchor index h) pass.old pass.new }
     {
         match self.try_table(pass, index, h) {
             Ok(page) => Ok(page),
@@ -264,9 +261,8 @@ impl<N: Name> SharedBoard<N> {
     #[inline(always)]
     pub fn try_page(&self, pass: &mut Pass<N>, cpu: u8, h: u64) -> Result<PageReply, PageFault>
         requires cpu { cpu < N.state.cpus }
-        ensures time { OnOk result (HasTime N.state.anchor h) }
-        ensures ok { IfOk result (λ r. HasTriedPage N.state cpu h r pass.old pass.new) }
-        ensures err { IfErr result (λ f. IsPageFault N.state.anchor cpu h f pass.old pass.new) }
+        ensures { ReadTold N.state h result (HasTriedPage N.state cpu h)
+            (IsPageFault N.state.anchor cpu h) pass.old pass.new }
     {
         match self.try_table(pass, cpu, h) {
             Ok(page) => Ok(answer_by(self.ratio, &page, h)),
@@ -277,9 +273,8 @@ impl<N: Name> SharedBoard<N> {
     /// Reads the clock by the page of `cpu` at count `h`, without the lock.
     pub fn try_clock(&self, pass: &mut Pass<N>, cpu: u8, h: u64) -> Result<ClockReply, PageFault>
         requires cpu { cpu < N.state.cpus }
-        ensures time { OnOk result (HasTime N.state.anchor h) }
-        ensures ok { IfOk result (λ r. HasTriedClock N.state cpu h r pass.old pass.new) }
-        ensures err { IfErr result (λ f. IsPageFault N.state.anchor cpu h f pass.old pass.new) }
+        ensures { ReadTold N.state h result (HasTriedClock N.state cpu h)
+            (IsPageFault N.state.anchor cpu h) pass.old pass.new }
     {
         match self.try_page(pass, cpu, h) {
             Ok(read) => Ok(self.clamp(pass, cpu, read)),
@@ -296,9 +291,8 @@ impl<N: Name> SharedBoard<N> {
         h: u64,
     ) -> Result<PageReply, LockedFault>
         requires cpu { cpu < N.state.cpus }
-        ensures time { OnOk result (HasTime N.state.anchor h) }
-        ensures ok { IfOk result (λ r. HasLockedPage N.state cpu h r pass.old pass.new) }
-        ensures err { IfErr result (λ f. IsLockedFault N.state.anchor h f pass.old pass.new) }
+        ensures { ReadTold N.state h result (HasLockedPage N.state cpu h)
+            (IsLockedFault N.state.anchor h) pass.old pass.new }
     {
         match self.table_locked(rt, pass, cpu, h) {
             Ok(page) => Ok(answer_by(self.ratio, &page, h)),
@@ -315,9 +309,8 @@ impl<N: Name> SharedBoard<N> {
         h: u64,
     ) -> Result<ClockReply, LockedFault>
         requires cpu { cpu < N.state.cpus }
-        ensures time { OnOk result (HasTime N.state.anchor h) }
-        ensures ok { IfOk result (λ r. HasLockedClock N.state cpu h r pass.old pass.new) }
-        ensures err { IfErr result (λ f. IsLockedFault N.state.anchor h f pass.old pass.new) }
+        ensures { ReadTold N.state h result (HasLockedClock N.state cpu h)
+            (IsLockedFault N.state.anchor h) pass.old pass.new }
     {
         match self.page_locked(rt, pass, cpu, h) {
             Ok(read) => Ok(self.clamp(pass, cpu, read)),
@@ -335,9 +328,8 @@ impl<N: Name> SharedBoard<N> {
         h: u64,
     ) -> Result<PageReply, LockedFault>
         requires cpu { cpu < N.state.cpus }
-        ensures time { OnOk result (HasTime N.state.anchor h) }
-        ensures ok { IfOk result (λ r. HasReadPage N.state cpu h r pass.old pass.new) }
-        ensures err { IfErr result (λ f. IsReadFault N.state.anchor cpu h f pass.old pass.new) }
+        ensures { ReadTold N.state h result (HasReadPage N.state cpu h)
+            (IsReadFault N.state.anchor cpu h) pass.old pass.new }
     {
         match self.read_table(rt, pass, cpu, h) {
             Ok(page) => Ok(answer_by(self.ratio, &page, h)),
@@ -355,9 +347,8 @@ impl<N: Name> SharedBoard<N> {
         h: u64,
     ) -> Result<ClockReply, LockedFault>
         requires cpu { cpu < N.state.cpus }
-        ensures time { OnOk result (HasTime N.state.anchor h) }
-        ensures ok { IfOk result (λ r. HasReadClock N.state cpu h r pass.old pass.new) }
-        ensures err { IfErr result (λ f. IsReadFault N.state.anchor cpu h f pass.old pass.new) }
+        ensures { ReadTold N.state h result (HasReadClock N.state cpu h)
+            (IsReadFault N.state.anchor cpu h) pass.old pass.new }
     {
         match self.read_page(rt, pass, cpu, h) {
             Ok(read) => Ok(self.clamp(pass, cpu, read)),
@@ -369,10 +360,8 @@ impl<N: Name> SharedBoard<N> {
     #[inline(always)]
     pub fn try_hv(&self, pass: &mut Pass<N>, h: u64) -> Result<HvReply, PageFault>
         requires format { HV_FORMAT ≤ N.state.format }
-        ensures time { OnOk result (HasTime N.state.anchor h) }
-        ensures ok { IfOk result (λ r. HasTriedHv N.state h r pass.old pass.new) }
-        ensures err { IfErr result
-            (λ f. IsPageFault N.state.anchor N.state.cpus h f pass.old pass.new) }
+        ensures { ReadTold N.state h result (HasTriedHv N.state h)
+            (IsPageFault N.state.anchor N.state.cpus h) pass.old pass.new }
     {
         match self.try_table(pass, self.cpus, h) {
             Ok(page) => Ok(hv_answer_by(self.ratio, &of_page(&page), h)),
@@ -388,9 +377,8 @@ impl<N: Name> SharedBoard<N> {
         h: u64,
     ) -> Result<HvReply, LockedFault>
         requires format { HV_FORMAT ≤ N.state.format }
-        ensures time { OnOk result (HasTime N.state.anchor h) }
-        ensures ok { IfOk result (λ r. HasLockedHv N.state h r pass.old pass.new) }
-        ensures err { IfErr result (λ f. IsLockedFault N.state.anchor h f pass.old pass.new) }
+        ensures { ReadTold N.state h result (HasLockedHv N.state h)
+            (IsLockedFault N.state.anchor h) pass.old pass.new }
     {
         match self.table_locked(rt, pass, self.cpus, h) {
             Ok(page) => Ok(hv_answer_by(self.ratio, &of_page(&page), h)),
@@ -407,10 +395,8 @@ impl<N: Name> SharedBoard<N> {
         h: u64,
     ) -> Result<HvReply, LockedFault>
         requires format { HV_FORMAT ≤ N.state.format }
-        ensures time { OnOk result (HasTime N.state.anchor h) }
-        ensures ok { IfOk result (λ r. HasReadHv N.state h r pass.old pass.new) }
-        ensures err { IfErr result
-            (λ f. IsReadFault N.state.anchor N.state.cpus h f pass.old pass.new) }
+        ensures { ReadTold N.state h result (HasReadHv N.state h)
+            (IsReadFault N.state.anchor N.state.cpus h) pass.old pass.new }
     {
         match self.read_table(rt, pass, self.cpus, h) {
             Ok(page) => Ok(hv_answer_by(self.ratio, &of_page(&page), h)),

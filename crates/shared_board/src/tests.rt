@@ -1,60 +1,23 @@
 //! Calls on a shared board by one thread and by two.
-ghost use Rattle.std.specs.Prelude.{◌≡◌, ◌<◌, IfOk, IsTrue};
-ghost use Rattle.clk_units.specs.Ranges.{IsKhz};
+ghost use Rattle.std.specs.Prelude.{◌<◌, IsTrue};
 ghost use Rattle.board_types.specs.Legal.{is_legal};
-ghost use Rattle.board_history.specs.Machine.{page_at};
 
 mod lag;
 mod many;
+mod setups;
 mod words;
 
 use super::*;
-use board_core::{Access, BoardState, MSR_KVM_SYSTEM_TIME, Reply, Setup};
+use board_core::{Access, BoardState, MSR_KVM_SYSTEM_TIME, Reply};
 use board_io::OpenGate;
-use clock_table::{Blank, Name};
-use host_counter::{Anchor, TimeFault};
+use clock_table::Name;
+use host_counter::TimeFault;
 use pvclock_page::{ClockReply, Page, PageReply};
-use rtc_calendar::TimeBytes;
+use setups::{Case, Ready, plain_board, stopped, test_on};
 use std::alloc::Global;
-use std::marker::Brand;
 use std::process::Abort;
 use std::sync::Wait;
 use std::test::*;
-use tick_policy::Policy;
-
-/// A host of 1 GHz and a guest of 2 GHz, both from 0, and two processors.
-fn board() -> BoardState
-    ensures cpus { result.cpus ≡ 2 }
-    ensures format { result.format ≡ 1 }
-    ensures fresh { (page_at result 0).version ≡ 0 }
-    ensures rate { IsKhz result.anchor.khz }
-{
-    BoardState::power_on(&Setup {
-        format: 1,
-        anchor: Anchor {
-            khz: 1_000_000,
-            start: 0,
-            base_ns: 0,
-        },
-        guest_khz: 2_000_000,
-        cpus: 2,
-        pit: Policy::Discard,
-        rtc: Policy::Discard,
-        hpet: Policy::Discard,
-        slew_ns: 1_000_000,
-        wall_sec: 0,
-        wall_nsec: 0,
-        time: TimeBytes {
-            sec: 0,
-            min: 0,
-            hour: 0,
-            wday: 7,
-            date: 1,
-            month: 1,
-            year: 0,
-        },
-    })
-}
 
 /// The page of a processor that enabled it at count 0.
 const ENABLED: Page = Page {
@@ -67,42 +30,6 @@ const ENABLED: Page = Page {
     offset: 0,
     enabled: true,
 };
-
-/// The words of a state, where there is memory.
-fn blank(alloc: Global, state: &BoardState) -> Result<Blank, Fail>
-    ensures { IfOk result (λ b. b.1 ≡ state.now) }
-{
-    match Blank::new(alloc, state) {
-        Ok(blank) => Ok(blank),
-        Err(_no_memory) => Err("no memory".into()),
-    }
-}
-
-/// A board and its passes, where there is memory.
-fn shared<N: Name>(
-    alloc: Global,
-    blank: Blank,
-    state: &BoardState,
-    passes: u8,
-) -> Result<(SharedBoard<N>, Vec<Pass<N>>), Fail>
-    requires table { blank.0 ≡ N.table }
-    requires blank { blank.1 ≡ N.state }
-    requires state { state.now ≡ N.state }
-    requires passes { passes ≡ N.passes }
-{
-    match SharedBoard::<N>::new(alloc, blank, state, passes) {
-        Ok(made) => Ok(made),
-        Err(_no_memory) => Err("no memory".into()),
-    }
-}
-
-/// The board of a stopped board, to which all its passes are given.
-fn stopped<N: Name>(board: SharedBoard<N>, passes: Vec<Pass<N>>) -> Result<Box<BoardState>, Fail> {
-    match board.stop(passes) {
-        Ok(Stopped { state }) => Ok(state),
-        Err(_out) => Err("all were given".into()),
-    }
-}
 
 /// The number of an access, 0 where it is refused.
 fn number<N: Name>(
@@ -131,25 +58,12 @@ const ENABLE: Access = Access::MsrWrite {
 
 #[test]
 fn pages_and_clocks_by_one_pass(rt: HostRuntime) -> Result<(), Fail> {
-    let state = board();
-    let blank = blank(rt.alloc(), &state)?;
-    read_by_one::<Brand, _>(&rt, rt.alloc(), blank, state)
+    test_on(&rt, rt.alloc(), Case::ReadByOne, plain_board(), 1)
 }
 
-fn read_by_one<N: Name, R: Wait + Abort>(
-    rt: &R,
-    alloc: Global,
-    blank: Blank,
-    state: BoardState,
-) -> Result<(), Fail>
-    requires table { blank.0 ≡ N.table }
-    requires blank { blank.1 ≡ N.state }
-    requires state { state ≡ N.state }
-    requires cpus { N.state.cpus ≡ 2 }
-    requires passes { 1 ≡ N.passes }
-{
-    let (board, mut passes) = shared::<N>(alloc, blank, &state, 1)?;
-    let mut pass = passes.pop().ok_or("a pass")?;
+/// One pass reads pages and clocks in each way.
+fn read_by_one<N: Name, R: Wait + Abort>(rt: &R, ready: Ready<N>) -> Result<(), Fail> {
+    let (board, mut pass) = ready.one()?;
     assert_eq!(rt; number(rt, &board, &mut pass, 0, 0, ENABLE), 1);
     assert_eq!(rt; number(rt, &board, &mut pass, 1, 0, ENABLE), 2);
     let clock = ClockReply::On {
@@ -184,26 +98,18 @@ fn read_by_one<N: Name, R: Wait + Abort>(
 
 #[test]
 fn a_board_stops_with_all_its_passes(rt: HostRuntime) -> Result<(), Fail> {
-    let mut state = board();
+    let mut state = plain_board();
     state.set_greatest(1_000);
-    let blank = blank(rt.alloc(), &state)?;
-    stopped_twice::<Brand, _>(&rt, rt.alloc(), blank, state)
+    test_on(&rt, rt.alloc(), Case::StoppedTwice, state, 2)
 }
 
+/// A board that is stopped while a pass is out, and then with both.
 fn stopped_twice<N: Name, R: Wait + Abort>(
     rt: &R,
     alloc: Global,
-    blank: Blank,
-    state: BoardState,
-) -> Result<(), Fail>
-    requires table { blank.0 ≡ N.table }
-    requires blank { blank.1 ≡ N.state }
-    requires state { state ≡ N.state }
-    requires cpus { N.state.cpus ≡ 2 }
-    requires passes { 2 ≡ N.passes }
-{
-    let (board, mut passes) = shared::<N>(alloc, blank, &state, 2)?;
-    let mut pass = passes.pop().ok_or("a pass")?;
+    ready: Ready<N>,
+) -> Result<(), Fail> {
+    let (board, mut pass, other) = ready.two()?;
     assert_eq!(rt; pass.number(), 1);
     assert_eq!(rt; number(rt, &board, &mut pass, 0, 5, ENABLE), 1);
     let clamped = ClockReply::On {
@@ -211,43 +117,32 @@ fn stopped_twice<N: Name, R: Wait + Abort>(
         clock: 1_000,
     };
     assert_eq!(rt; board.try_clock(&mut pass, 0, 900), Ok(clamped));
+    let mut others = Vec::new(alloc);
+    others.push(other)?;
     let PassesOut {
         given,
         made,
         board,
         mut passes,
-    } = match board.stop(passes) {
+    } = match board.stop(others) {
         Ok(_stopped) => return Err("a pass was out".into()),
         Err(out) => out,
     };
     assert_eq!(rt; (given, made), (1, 2));
-    passes.push(pass)?;
-    let state = stopped(board, passes)?;
+    let other = passes.pop().ok_or("a pass")?;
+    let state = stopped(alloc, board, other, pass)?;
     assert_eq!(rt; (state.accesses(), state.greatest()), (1, 1_000));
     Ok(())
 }
 
 #[test]
 fn two_accesses_under_one_lock(rt: HostRuntime) -> Result<(), Fail> {
-    let state = board();
-    let blank = blank(rt.alloc(), &state)?;
-    held_twice::<Brand, _>(&rt, rt.alloc(), blank, state)
+    test_on(&rt, rt.alloc(), Case::HeldTwice, plain_board(), 1)
 }
 
-fn held_twice<N: Name, R: Wait + Abort>(
-    rt: &R,
-    alloc: Global,
-    blank: Blank,
-    state: BoardState,
-) -> Result<(), Fail>
-    requires table { blank.0 ≡ N.table }
-    requires blank { blank.1 ≡ N.state }
-    requires state { state ≡ N.state }
-    requires cpus { N.state.cpus ≡ 2 }
-    requires passes { 1 ≡ N.passes }
-{
-    let (board, mut passes) = shared::<N>(alloc, blank, &state, 1)?;
-    let mut pass = passes.pop().ok_or("a pass")?;
+/// The lock is kept for two accesses.
+fn held_twice<N: Name, R: Wait + Abort>(rt: &R, ready: Ready<N>) -> Result<(), Fail> {
+    let (board, mut pass) = ready.one()?;
     let mut one = Reply::empty();
     let mut two = Reply::empty();
     let mut holding = board.hold(rt);

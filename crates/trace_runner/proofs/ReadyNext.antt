@@ -17,6 +17,7 @@ use Rattle.race_phase.specs.declared.phases.End.TheVariants.{Finish, Save as ByS
 use Rattle.reply_text.specs.declared.ends.Refused.{Refused}
 use Rattle.trace_text.specs.Header.{board_of}
 use Rattle.trace_text.specs.Lines.{taken, after_line}
+use Rattle.trace_text.specs.declared.faults.RecordFault.{RecordFault}
 use Rattle.trace_text.specs.declared.records.Job.{Job}
 use Rattle.trace_text.specs.declared.records.Call.TheVariants.{Act, ReadPage, ReadClock, ReadHv}
 use Rattle.trace_text.specs.declared.records.Job.TheVariants.{Ask, Save, Move}
@@ -26,9 +27,9 @@ use Rattle.trace_text.specs.declared.reading.ReadingParts.{ReadingParts}
 use Rattle.trace_text.specs.declared.reading.Stage.{Stage}
 use Rattle.trace_text.specs.declared.reading.Stage.TheVariants.{Opening, Heading, Running}
 use Rattle.trace_loop.specs.Progress.{Answer, Goes, Ends}
-use Rattle.trace_loop.specs.Answered.{end_of, state_after}
+use Rattle.trace_loop.specs.Answered.{end_of, state_after, IsAnswered}
 use Rattle.trace_runner.specs.Records.{answer_unless, ended_answer, job_answer}
-use Rattle.trace_runner.specs.Replay.{item_answer, with_board}
+use Rattle.trace_runner.specs.Replay.{item_answer, taken_answer, answer_of, with_board}
 use Rattle.trace_runner.specs.Ready.{IsRound, IsReady}
 use Rattle.trace_runner.specs.declared.replay.Replay.{Replay}
 use Rattle.trace_runner.specs.declared.status.Verdict.{Verdict}
@@ -119,13 +120,41 @@ ready_next line r text item ready took =
     let next = taken_holds (Onward r.board) text r.reading item ready.round (onward r.board r.reading.stage ready.round) took in
     item_ready line item (record r { reading = after_line text r.reading }) (next.0 ∙ ready.count) next.1
 
--- .. as a fact of the next line, by the answer that was given
-pub next_ready : (res : Result (Unit {0}) NoMemory) (end : Option Verdict) (line : ℕ) (item : Item) (r new : Replay) (reading : ReadingParts)
+-- .. as a fact of the next line, by what was answered to the item
+pub read_ready : (res : Result (Unit {0}) NoMemory) (end : Option Verdict) (line : ℕ) (item : Item) (r new : Replay) (reading : ReadingParts)
     (text : List ℕ) → IsReady line r → taken r.reading text ≡ Ok item → reading ≡ after_line text r.reading
     → (let r' : Replay = record r { reading = reading } in OnOk res (end ≡ end_of (item_answer line item r'))
     → OnOk res (end ≡ None → new ≡ state_after (item_answer line item r') r') → OnOk res (end ≡ None → IsReady (line + 1) new))
-next_ready (Err e) end line item r new reading text ready took is = λ ends state. tt
-next_ready (Ok u) end line item r new reading text ready took is = λ ends state none.
+read_ready (Err e) end line item r new reading text ready took is = λ ends state. tt
+read_ready (Ok u) end line item r new reading text ready took is = λ ends state none.
     subst (IsReady (line + 1)) (sym (state none))
     (subst (λ (p : ReadingParts). (let r' : Replay = record r { reading = p } in end_of (item_answer line item r') ≡ None
     → IsReady (line + 1) (state_after (item_answer line item r') r'))) (sym is) (ready_next line r text item ready took) (sym ends ∙ none))
+
+-- after a line that was read, or was refused
+taken_ready : (line : ℕ) (r : Replay) (text : List ℕ) (x : Result Item RecordFault) → IsReady line r → taken r.reading text ≡ x
+    → (let r' : Replay = record r { reading = after_line text r.reading } in end_of (taken_answer line x r') ≡ None
+    → IsReady (line + 1) (state_after (taken_answer line x r') r'))
+taken_ready line r text (Ok item) ready took = ready_next line r text item ready took
+taken_ready line r text (Err fault) ready took = λ none. cc
+
+-- the state after an answer that goes on, whatever was before it
+state_same : (x : Answer Replay Verdict) (r r' : Replay) → end_of x ≡ None → state_after x r ≡ state_after x r'
+state_same (Goes text b) r r' none = refl
+state_same (Ends closing) r r' none = cc
+
+-- after a line
+answer_ready : (line : ℕ) (r : Replay) (text : List ℕ) → IsReady line r → end_of (answer_of line r text) ≡ None
+    → IsReady (line + 1) (state_after (answer_of line r text) r)
+unfolding answer_of
+answer_ready line r text ready none =
+    let r' : Replay = record r { reading = after_line text r.reading } in
+    let x : Answer Replay Verdict = taken_answer line (taken r.reading text) r' in
+    subst (IsReady (line + 1)) (state_same x r' r none) (taken_ready line r text (taken r.reading text) ready refl none)
+
+-- .. as a fact of the next line, by what was answered to the line
+pub next_ready : (line : ℕ) (text before after : List ℕ) (r new : Replay) (end : Option Verdict) (res : Result (Unit {0}) NoMemory)
+    → IsReady line r → IsAnswered (answer_of line r text) r new before after end res → OnOk res (end ≡ None → IsReady (line + 1) new)
+next_ready line text before after r new end (Ok u) ready given = λ none.
+    subst (IsReady (line + 1)) (sym (given.state none)) (answer_ready line r text ready (sym given.ends ∙ none))
+next_ready line text before after r new end (Err e) ready given = tt

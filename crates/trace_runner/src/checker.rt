@@ -1,12 +1,12 @@
 //! What answers the lines of a trace that is checked.
-ghost use Rattle.std.specs.Prelude.{◌≡◌, ◌<◌, ◌≤◌, ◌+◌, ◌^◌, ◌++◌, None, Some, IfOk, OnOk, OnErr};
+ghost use Rattle.std.specs.Prelude.{◌≡◌, ◌<◌, ◌≤◌, ◌+◌, ◌^◌, ◌++◌, None, IfOk, OnOk};
 ghost use Rattle.trace_loop.specs.Answered.{IsAnswered};
 ghost use Rattle.trace_text.specs.Lines.{taken, record_in, record_of_item};
-ghost use Rattle.reply_text.specs.Text.{refused_text};
 ghost use Rattle.trace_runner.specs.Ready.{Suits};
 ghost use Rattle.trace_runner.specs.Sound.{IsSound};
 ghost use Rattle.trace_runner.specs.Check.{
   too_many,
+  refusal,
   record_checked,
   item_checked,
   fault_checked,
@@ -16,11 +16,12 @@ ghost use Rattle.trace_runner.specs.Check.{
   has_form,
   unchecked,
 };
-ghost use Rattle.trace_runner.specs.Checked.Checked.{Stopped};
+ghost use Rattle.trace_runner.specs.Records.{stops};
 ghost use Rattle.trace_runner.specs.Replay.{at_start};
+ghost use Rattle.trace_runner.specs.private.Closed.{IsClosedBy};
 
 use crate::check::Check;
-use crate::status::{Verdict, stop};
+use crate::status::stop;
 use crate::trace::Checked;
 use clk_units::NoMemory;
 use race_phase::{Feed, Feeding};
@@ -181,10 +182,8 @@ impl<'a, F: Feeding> Check<'a, F> {
         out: &mut Vec<u8>,
         end: &mut Option<Checked<'a, F>>,
     ) -> Result<(), NoMemory>
-        ensures printed { OnOk result
-            (out.new.items ≡ out.old.items ++ (fault_checked line fault self.now).text) }
-        ensures ends { OnOk result (end.new ≡ Some (fault_checked line fault self.now).end) }
-        ensures err { OnErr result (out.new.items ≡ out.old.items) }
+        ensures { IsClosedBy (fault_checked line fault self.now) out.old.items out.new.items
+            end.new result }
     {
         if self.is_full() && has_form(fault.reason) {
             return many(line, out, end);
@@ -250,9 +249,7 @@ fn many<'a, F: Feeding>(
     out: &mut Vec<u8>,
     end: &mut Option<Checked<'a, F>>,
 ) -> Result<(), NoMemory>
-    ensures printed { OnOk result (out.new.items ≡ out.old.items ++ (too_many line).text) }
-    ensures ends { OnOk result (end.new ≡ Some (too_many line).end) }
-    ensures err { OnErr result (out.new.items ≡ out.old.items) }
+    ensures { IsClosedBy (too_many line) out.old.items out.new.items end.new result }
 {
     stopped(line, Refused::Invalid(Reason::TooMany), out, end)
 }
@@ -266,9 +263,7 @@ fn stopped<'a, F: Feeding>(
     out: &mut Vec<u8>,
     end: &mut Option<Checked<'a, F>>,
 ) -> Result<(), NoMemory>
-    ensures printed { OnOk result (out.new.items ≡ out.old.items ++ refused_text line why) }
-    ensures ends { OnOk result (end.new ≡ Some (Stopped (Verdict.Stopped line why))) }
-    ensures err { OnErr result (out.new.items ≡ out.old.items) }
+    ensures { IsClosedBy (refusal (stops line why)) out.old.items out.new.items end.new result }
 {
     let verdict = stop(line, why, out)?;
     *end = Some(Checked::stopped(verdict));

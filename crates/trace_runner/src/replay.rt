@@ -1,9 +1,6 @@
 //! What answers the lines of a trace: a reader, and the board that its records act on.
 ghost use Rattle.std.specs.Prelude.{
   ◌≡◌,
-  ◌<◌,
-  ◌+◌,
-  ◌^◌,
   ◌++◌,
   replicate,
   Ok,
@@ -18,7 +15,8 @@ ghost use Rattle.std.specs.Io.{StartsWith};
 ghost use Rattle.trace_loop.specs.Answered.{IsAnswered};
 ghost use Rattle.trace_runner.specs.Deliveries.{deliveries_of};
 ghost use Rattle.trace_runner.specs.Replay.{answer_of, item_answer, ended};
-ghost use Rattle.trace_runner.specs.Ready.{IsReady, Suits};
+ghost use Rattle.trace_runner.specs.Ready.{Suits};
+ghost use Rattle.trace_runner.specs.private.Ready.{MayAnswer};
 
 use crate::deliveries::deliveries_of;
 use crate::kept::KeptBoard;
@@ -142,12 +140,9 @@ impl Replay {
         out: &mut Vec<u8>,
         end: &mut Option<Verdict>,
     ) -> Result<(), NoMemory>
-        requires room { line < 2 ^ 63 }
-        requires may { IsReady line self.old }
-        requires open { end.old ≡ None }
-        ensures answered { IsAnswered (answer_of line self.old front.entry) self.old self.new
+        requires { MayAnswer line self.old end.old }
+        ensures { IsAnswered (answer_of line self.old front.entry) self.old self.new
             out.old.items out.new.items end.new result }
-        ensures may { OnOk result (end.new ≡ None → IsReady (line + 1) self.new) }
     {
         if let Some(read) = self.reading.take_clock(&front) {
             return self.answer_clock_apart(line, read, out, end);
@@ -165,12 +160,9 @@ impl Replay {
         out: &mut Vec<u8>,
         end: &mut Option<Verdict>,
     ) -> Result<(), NoMemory>
-        requires room { line < 2 ^ 63 }
-        requires may { IsReady line self.old }
-        requires open { end.old ≡ None }
-        ensures answered { IsAnswered (answer_of line self.old front.now) self.old self.new
+        requires { MayAnswer line self.old end.old }
+        ensures { IsAnswered (answer_of line self.old front.now) self.old self.new
             out.old.items out.new.items end.new result }
-        ensures may { OnOk result (end.new ≡ None → IsReady (line + 1) self.new) }
     {
         let mut given = no_record();
         if self.reading.read_after(front, &mut given) {
@@ -190,12 +182,9 @@ impl Replay {
         out: &mut Vec<u8>,
         end: &mut Option<Verdict>,
     ) -> Result<(), NoMemory>
-        requires room { line < 2 ^ 63 }
-        requires may { IsReady line self.old }
-        requires open { end.old ≡ None }
-        ensures answered { IsAnswered (answer_of line self.old text.now) self.old self.new
+        requires { MayAnswer line self.old end.old }
+        ensures { IsAnswered (answer_of line self.old text.now) self.old self.new
             out.old.items out.new.items end.new result }
-        ensures may { OnOk result (end.new ≡ None → IsReady (line + 1) self.new) }
     {
         let mut given = no_record();
         if self.reading.read_apart(text, &mut given) {
@@ -216,12 +205,9 @@ impl Replay {
         out: &mut Vec<u8>,
         end: &mut Option<Verdict>,
     ) -> Result<(), NoMemory>
-        requires room { line < 2 ^ 63 }
-        requires may { IsReady line self.old }
-        requires open { end.old ≡ None }
-        ensures answered { IsAnswered (answer_of line self.old text.now) self.old self.new
+        requires { MayAnswer line self.old end.old }
+        ensures { IsAnswered (answer_of line self.old text.now) self.old self.new
             out.old.items out.new.items end.new result }
-        ensures may { OnOk result (end.new ≡ None → IsReady (line + 1) self.new) }
     {
         match self.reading.take_line(text) {
             Ok(item) => self.answer_item(line, &item, out, end),
@@ -263,7 +249,7 @@ impl Answerer<Verdict> for Replay {
     /// An access as most lines ask for it is read and answered here, in registers. Any other line is read and answered by a
     /// call: it would make this too large to be inlined in the loop over the lines.
     #[inline(always)]
-    #[tactic(auto, unfolding(crate::specs::Replay::answer_of))]
+    #[tactic(auto, unfolding(crate::specs::Replay::answer_of), using(crate::proofs::ReadyNext::next_ready))]
     fn answer(
         &mut self,
         line: u64,

@@ -1,13 +1,15 @@
 //! How a run of the program ends.
-ghost use Rattle.std.specs.Prelude.{◌≡◌, ◌++◌, Some, IfOk, OnOk, OnErr};
+ghost use Rattle.std.specs.Prelude.{◌≡◌, ◌++◌, IfOk, OnOk, OnErr};
 ghost use Rattle.reply_text.specs.Text.{refused_text};
 ghost use Rattle.trace_runner.specs.Records.{
   refused_access,
   refused_fault,
   refused_move,
   refused_cause,
+  stops,
 };
 ghost use Rattle.trace_runner.specs.Status.{status_of, verdict_status};
+ghost use Rattle.trace_runner.specs.private.Closed.{IsClosedBy};
 
 use board_core::Refusal;
 use clk_units::NoMemory;
@@ -160,9 +162,7 @@ pub(crate) fn refuse(
     out: &mut Vec<u8>,
     end: &mut Option<Verdict>,
 ) -> Result<(), NoMemory>
-    ensures printed { OnOk result (out.new.items ≡ out.old.items ++ refused_text line why) }
-    ensures ends { OnOk result (end.new ≡ Some (Verdict.Stopped line why)) }
-    ensures err { OnErr result (out.new.items ≡ out.old.items) }
+    ensures { IsClosedBy (stops line why) out.old.items out.new.items end.new result }
 {
     *end = Some(stop(line, why, out)?);
     Ok(())

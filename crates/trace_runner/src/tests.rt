@@ -92,6 +92,38 @@ fn expect<R: Threads + Wait + Sync + Abort + Alloc<A = Global>>(
     Ok(())
 }
 
+/// Runs the program over ends that don't fail, until it is done: what it prints.
+fn text_of<R: Threads + Wait + Sync + Abort + Alloc<A = Global>>(
+    rt: &R,
+    words: &[&str],
+    trace: &[u8],
+) -> Result<Vec<u8>, AllocError> {
+    let (status, text) = told(rt, words, trace, &WELL)?;
+    assert_eq!(rt; status, Status::Ok);
+    Ok(text)
+}
+
+/// The same, and compares what it prints.
+fn expect_text<R: Threads + Wait + Sync + Abort + Alloc<A = Global>>(
+    rt: &R,
+    words: &[&str],
+    trace: &[u8],
+    text: &[u8],
+) -> Result<(), AllocError> {
+    expect(rt, words, trace, &WELL, Status::Ok, text)
+}
+
+/// Replays each trace, and compares what it prints.
+fn expect_replays<R: Threads + Wait + Sync + Abort + Alloc<A = Global>>(
+    rt: &R,
+    traces: &[(&[u8], &[u8])],
+) -> Result<(), AllocError> {
+    for (trace, text) in traces {
+        expect_text(rt, &["replay"], trace, text)?;
+    }
+    Ok(())
+}
+
 #[test]
 fn a_trace_in_pieces_of_any_size(rt: HostRuntime) -> Result<(), Fail> {
     for source_piece in [1, 7, 4096] {
@@ -144,9 +176,7 @@ fn the_timer_behind_its_ports(rt: HostRuntime) -> Result<(), Fail> {
             b"3 1\n4 2\n5 3\n6 4 99\n7 5 99\nfinal 2000 5 0 -\n",
         ),
     ];
-    for (trace, text) in traces {
-        expect(&rt, &["replay"], trace, &WELL, Status::Ok, text)?;
-    }
+    expect_replays(&rt, &traces)?;
     Ok(())
 }
 
@@ -184,9 +214,7 @@ fn all_devices_after_their_records(rt: HostRuntime) -> Result<(), Fail> {
             b"3 1 009896808086a701\n4 2 00f0000000002830\nfinal 0 2 0 -\n",
         ),
     ];
-    for (trace, text) in traces {
-        expect(&rt, &["replay"], trace, &WELL, Status::Ok, text)?;
-    }
+    expect_replays(&rt, &traces)?;
     Ok(())
 }
 
@@ -274,30 +302,9 @@ fn words(rt: HostRuntime) -> Result<(), Fail> {
     for words in unknown {
         expect(&rt, words, FIRST_RISE, &WELL, Status::Usage, usage)?;
     }
-    expect(
-        &rt,
-        &["--version"],
-        b"",
-        &WELL,
-        Status::Ok,
-        b"clockboard 0.1.0\n",
-    )?;
-    expect(
-        &rt,
-        &["--help"],
-        b"",
-        &WELL,
-        Status::Ok,
-        help(Page::Overview),
-    )?;
-    expect(
-        &rt,
-        &["gen", "--help"],
-        b"",
-        &WELL,
-        Status::Ok,
-        help(Page::OfGen),
-    )?;
+    expect_text(&rt, &["--version"], b"", b"clockboard 0.1.0\n")?;
+    expect_text(&rt, &["--help"], b"", help(Page::Overview))?;
+    expect_text(&rt, &["gen", "--help"], b"", help(Page::OfGen))?;
     Ok(())
 }
 
@@ -307,16 +314,9 @@ const GENERATED: &[u8] =
 
 #[test]
 fn generated_traces(rt: HostRuntime) -> Result<(), Fail> {
-    expect(
-        &rt,
-        &["gen", "1", "1", "1"],
-        b"",
-        &WELL,
-        Status::Ok,
-        GENERATED,
-    )?;
+    expect_text(&rt, &["gen", "1", "1", "1"], b"", GENERATED)?;
     let sum = b"soak 1 0 34774 0\n";
-    expect(&rt, &["soak", "1", "1", "1"], b"", &WELL, Status::Ok, sum)?;
+    expect_text(&rt, &["soak", "1", "1", "1"], b"", sum)?;
     Ok(())
 }
 
@@ -329,7 +329,7 @@ const MOVED_TEXT: &[u8] =
 
 #[test]
 fn a_guest_that_is_moved(rt: HostRuntime) -> Result<(), Fail> {
-    expect(&rt, &["replay"], MOVED, &WELL, Status::Ok, MOVED_TEXT)?;
+    expect_text(&rt, &["replay"], MOVED, MOVED_TEXT)?;
     Ok(())
 }
 
@@ -343,7 +343,7 @@ const REFERENCE_TEXT: &[u8] =
 #[test]
 fn a_guest_that_reads_the_reference_page(rt: HostRuntime) -> Result<(), Fail> {
     for job in ["replay", "race"] {
-        expect(&rt, &[job], REFERENCE, &WELL, Status::Ok, REFERENCE_TEXT)?;
+        expect_text(&rt, &[job], REFERENCE, REFERENCE_TEXT)?;
     }
     Ok(())
 }

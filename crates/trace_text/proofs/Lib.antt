@@ -13,4 +13,4 @@ pub mod Limits
 pub mod NoRecord
 pub mod UsualRows
 pub mod Ports
-pub mod Fronts
+pub mod Prefixes

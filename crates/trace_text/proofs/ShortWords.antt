@@ -1,5 +1,5 @@
 -- Words of few digits.
-use Rattle.std.proofs.Common.{◌≡◌, ℕ, ◌+◌, ◌-◌, ◌<◌, ◌≤◌, Bool, true, false, ◌&&◌, ltb, eqb, get_or, length, drop, List, Some, refl, ◌∙◌, ap, arith}
+use Rattle.std.proofs.Common.{◌≡◌, ℕ, ◌+◌, ◌-◌, ◌<◌, ◌≤◌, Bool, true, false, ◌&&◌, ltb, eqb, get_or, length, drop, List, Option, Some, refl, sym, ◌∙◌, ap, arith}
 use Rattle.std.specs.Prelude.{option_and_then}
 use Rattle.std.proofs.lemmas.Bool.{lt-ltb, le-ltb, ne_eqb}
 use Rattle.trace_text.specs.Tokens.{first, rest, decimal_in, hex_in}
@@ -17,26 +17,35 @@ two_are_hexadecimal : (most n d : ℕ) (zero : Bool) → d ≡ 2 → 2 ≤ most
     → hex_of most (record { value = n; digits = d; zero = zero }) ≡ Some n
 two_are_hexadecimal most n d zero e h = rw (e, le-ltb most 2 h) refl
 
-pub one_digit_word : (at n : ℕ) (line : List ℕ) → at ≤ length line
+-- what is known of the words from a place of a line on is known of those that a reader sees there
+seen_word : (token : List ℕ → Option ℕ) (at last next n : ℕ) (line : List ℕ) (ws : List (List ℕ)) → words_from at line ≡ ws → next ≡ last + 1
+    → (first token (words_from at line) ≡ Some n) × (words_from (last + 1) line ≡ rest (words_from at line))
+    → (first token ws ≡ Some n) × (words_from next line ≡ rest ws)
+seen_word token at last next n line ws seen e there =
+    (ap (first token) (sym seen) ∙ there.0, ap (λ (k : ℕ). words_from k line) e ∙ there.1 ∙ ap rest seen)
+
+pub one_digit_word : (at next n : ℕ) (line : List ℕ) (ws : List (List ℕ)) → words_from at line ≡ ws → next ≡ at + 2 → at + 1 ≤ length line
     → spelled 10 0 0 (drop at line)
     ≡ Some (record { count = at + 1 - at; value = n; left = words_from (at + 1 + 1) line })
-    → (first decimal_in (words_from at line) ≡ Some n) × (words_from (at + 1 + 1) line ≡ rest (words_from at line))
-one_digit_word at n line h e =
-    let there = a_number 10 at (at + 1) n line (omega arith) h e in
-    let count : at + 1 - at ≡ 1 = omega arith in (
+    → (first decimal_in ws ≡ Some n) × (words_from next line ≡ rest ws)
+one_digit_word at next n line ws seen after h e =
+    let there = a_number 10 at (at + 1) n line (omega arith) (omega arith) e in
+    let count : at + 1 - at ≡ 1 = omega arith in
+    seen_word decimal_in at (at + 1) next n line ws seen (omega arith) (
       dec-is (words_from at line)
           ∙ ap (option_and_then decimal_of) there.0
           ∙ one_is_decimal n (at + 1 - at) _ count,
       there.1,
     )
 
-pub two_digits_word : (most at n : ℕ) (line : List ℕ) → 2 ≤ most → at ≤ length line
-    → spelled 16 0 0 (drop at line)
+pub two_digits_word : (most at next n : ℕ) (line : List ℕ) (ws : List (List ℕ)) → words_from at line ≡ ws → next ≡ at + 3 → 2 ≤ most
+    → at + 2 ≤ length line → spelled 16 0 0 (drop at line)
     ≡ Some (record { count = at + 2 - at; value = n; left = words_from (at + 2 + 1) line })
-    → (first (hex_in most) (words_from at line) ≡ Some n) × (words_from (at + 2 + 1) line ≡ rest (words_from at line))
-two_digits_word most at n line m h e =
-    let there = a_number 16 at (at + 2) n line (omega arith) h e in
-    let count : at + 2 - at ≡ 2 = omega arith in (
+    → (first (hex_in most) ws ≡ Some n) × (words_from next line ≡ rest ws)
+two_digits_word most at next n line ws seen after m h e =
+    let there = a_number 16 at (at + 2) n line (omega arith) (omega arith) e in
+    let count : at + 2 - at ≡ 2 = omega arith in
+    seen_word (hex_in most) at (at + 2) next n line ws seen (omega arith) (
       hex-is most (words_from at line)
           ∙ ap (option_and_then (hex_of most)) there.0
           ∙ two_are_hexadecimal most n (at + 2 - at) (ltb at (at + 2) && eqb (get_or line at 0) 48) count m,
@@ -51,25 +60,29 @@ no_zero_is_decimal n d zero h e = rw (e, ne_eqb d 0 (λ none. omega arith)) refl
 few_are_hexadecimal : (most n d : ℕ) (zero : Bool) → 0 < d → d ≤ most → hex_of most (record { value = n; digits = d; zero = zero }) ≡ Some n
 few_are_hexadecimal most n d zero h few = rw (ne_eqb d 0 (λ none. omega arith), le-ltb most d few) refl
 
-pub decimal_word : (at last n : ℕ) (line : List ℕ) → at < last → last ≤ length line → (get_or line at 0 ≡ 48 → ⊥)
+pub decimal_word : (at last next n : ℕ) (line : List ℕ) (ws : List (List ℕ)) → words_from at line ≡ ws → next ≡ last + 1 → at < last
+    → last ≤ length line → (get_or line at 0 ≡ 48 → ⊥)
     → spelled 10 0 0 (drop at line)
     ≡ Some (record { count = last - at; value = n; left = words_from (last + 1) line })
-    → (first decimal_in (words_from at line) ≡ Some n) × (words_from (last + 1) line ≡ rest (words_from at line))
-decimal_word at last n line less within other e =
+    → (first decimal_in ws ≡ Some n) × (words_from next line ≡ rest ws)
+decimal_word at last next n line ws seen after less within other e =
     let there = a_number 10 at last n line (omega arith) (omega arith) e in
-    let zero : ltb at last && eqb (get_or line at 0) 48 ≡ false = rw (lt-ltb at last less, ne_eqb (get_or line at 0) 48 other) refl in (
+    let zero : ltb at last && eqb (get_or line at 0) 48 ≡ false = rw (lt-ltb at last less, ne_eqb (get_or line at 0) 48 other) refl in
+    seen_word decimal_in at last next n line ws seen after (
       dec-is (words_from at line)
           ∙ ap (option_and_then decimal_of) there.0
           ∙ no_zero_is_decimal n (last - at) _ (omega arith) zero,
       there.1,
     )
 
-pub hexadecimal_word : (at last n : ℕ) (line : List ℕ) → at < last → last ≤ length line → last ≤ at + 16
+pub hexadecimal_word : (at last next n : ℕ) (line : List ℕ) (ws : List (List ℕ)) → words_from at line ≡ ws → next ≡ last + 1 → at < last
+    → last ≤ length line → last ≤ at + 16
     → spelled 16 0 0 (drop at line)
     ≡ Some (record { count = last - at; value = n; left = words_from (last + 1) line })
-    → (first (hex_in 16) (words_from at line) ≡ Some n) × (words_from (last + 1) line ≡ rest (words_from at line))
-hexadecimal_word at last n line less within few e =
-    let there = a_number 16 at last n line (omega arith) (omega arith) e in (
+    → (first (hex_in 16) ws ≡ Some n) × (words_from next line ≡ rest ws)
+hexadecimal_word at last next n line ws seen after less within few e =
+    let there = a_number 16 at last n line (omega arith) (omega arith) e in
+    seen_word (hex_in 16) at last next n line ws seen after (
       hex-is 16 (words_from at line)
           ∙ ap (option_and_then (hex_of 16)) there.0
           ∙ few_are_hexadecimal 16 n (last - at) (ltb at last && eqb (get_or line at 0) 48) (omega arith) (omega arith),

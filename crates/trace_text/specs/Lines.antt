@@ -3,6 +3,7 @@ use Rattle.std.specs.Prelude.{
   ℕ,
   ◌+◌,
   ◌==◌,
+  ◌≡◌,
   ◌≤◌,
   nat_lt,
   Bool,
@@ -15,6 +16,9 @@ use Rattle.std.specs.Prelude.{
   Some,
   None,
   is_some,
+  IfSome,
+  OnSome,
+  IfNone,
   unwrap_or,
   Result,
   Ok,
@@ -22,6 +26,7 @@ use Rattle.std.specs.Prelude.{
   if◌then◌else◌,
   codes,
 }
+use Rattle.std.specs.Bool.{OnTrue, OnFalse}
 use Rattle.std.specs.Option.{option_map_or}
 use Rattle.std.specs.Str.{bytes_eq}
 use Rattle.trace_loop.specs.Progress.{limit_of}
@@ -194,3 +199,23 @@ IsItem stage Part = Unit {0}
 IsItem stage (Begun header) = IsBegin header.begin header.routes
 IsItem stage (NextItem r) = IsRecordAt stage r
 IsItem stage End = Unit {0}
+
+-- a record was asked for of a line: where one was taken it is what the line is, and `new` is the reader
+-- after it; else the reader has stayed
+pub record HasTaken {A : Type 0} (of : A → Record) (old : ReadingParts) (line : List ℕ)
+    (result : Option A) (new : ReadingParts) : Type 0 where
+  pub item : IfSome result (λ a. taken old line ≡ Ok (NextItem (of a)))
+  pub state : OnSome result (new ≡ after_line line old)
+  pub valid : IfSome result (λ a. IsRecordAt old.stage (of a))
+  pub is_open : OnSome result (IsOpen new.stage)
+  pub none : IfNone result (new ≡ old)
+
+-- the same where it is read into a place: the line is no record where the answer is false
+pub record HasRead (old : ReadingParts) (line : List ℕ) (result : Bool) (into : Record)
+    (new : ReadingParts) : Type 0 where
+  pub item : OnTrue result (taken old line ≡ Ok (NextItem into))
+  pub cause : OnFalse result (record_in (taken old line) ≡ None)
+  pub state : OnTrue result (new ≡ after_line line old)
+  pub valid : OnTrue result (IsRecordAt old.stage into)
+  pub is_open : OnTrue result (IsOpen new.stage)
+  pub none : OnFalse result (new ≡ old)

@@ -1,5 +1,5 @@
 //! What a record does, by the words after its counter.
-ghost use Rattle.std.specs.Prelude.{◌≡◌, ◌<◌, nat_lt, Ok, IfOk, OnSome, IfNone, codes};
+ghost use Rattle.std.specs.Prelude.{◌≡◌, ◌<◌, nat_lt, if◌then◌else◌, Ok, Err, IfOk, OnSome, IfNone, codes};
 ghost use Rattle.trace_text.specs.Tokens.{rest, first, such_that, decimal_past};
 ghost use Rattle.trace_text.specs.Rows.{last};
 ghost use Rattle.board_types.specs.declared.setup.TheConstants.{HV_FORMAT};
@@ -40,17 +40,25 @@ pub(crate) fn act(access: Access) -> Job
     Job::Ask(Call::Act { access })
 }
 
+/// An access, if it is in form.
+#[inline(always)]
+fn act_if(in_form: bool, access: Access) -> Result<Job, Reason>
+    ensures { result ≡ if in_form then Ok (Job.Ask (Call.Act access)) else Err Reason.Form }
+{
+    if in_form {
+        Ok(act(access))
+    } else {
+        Err(Reason::Form)
+    }
+}
+
 /// An access, if the board takes it.
 #[inline(always)]
 fn board(body: &Body, access: Access) -> Result<Job, Reason>
     ensures job { result ≡ board body.now access }
     ensures valid { IfOk result (IsJob body.now) }
 {
-    if access.legal(body.cpus, body.format) {
-        Ok(act(access))
-    } else {
-        Err(Reason::Form)
-    }
+    act_if(access.legal(body.cpus, body.format), access)
 }
 
 /// An access to this MSR.
@@ -71,11 +79,7 @@ pub(crate) fn in_job(body: &Body, words: &mut Words<'_>) -> Result<Job, Reason>
 {
     let port = words.hex8().ok_or(Reason::Form)?;
     words.end()?;
-    if is_port(port) {
-        Ok(act(Access::PortIn { port }))
-    } else {
-        Err(Reason::Form)
-    }
+    act_if(is_port(port), Access::PortIn { port })
 }
 
 #[inline(always)]
@@ -86,11 +90,7 @@ pub(crate) fn out_job(body: &Body, words: &mut Words<'_>) -> Result<Job, Reason>
     let port = words.hex8().ok_or(Reason::Form)?;
     let byte = words.byte().ok_or(Reason::Form)?;
     words.end()?;
-    if is_port(port) {
-        Ok(act(Access::PortOut { port, byte }))
-    } else {
-        Err(Reason::Form)
-    }
+    act_if(is_port(port), Access::PortOut { port, byte })
 }
 
 #[inline(always)]
@@ -101,11 +101,10 @@ pub(crate) fn hr_job(body: &Body, words: &mut Words<'_>) -> Result<Job, Reason>
     let offset = words.hex16().ok_or(Reason::Form)?;
     let width = words.dec8().ok_or(Reason::Form)?;
     words.end()?;
-    if is_hpet_place(offset, width) {
-        Ok(act(Access::HpetRead { offset, width }))
-    } else {
-        Err(Reason::Form)
-    }
+    act_if(
+        is_hpet_place(offset, width),
+        Access::HpetRead { offset, width },
+    )
 }
 
 #[inline(always)]
@@ -155,11 +154,7 @@ pub(crate) fn ack_job(body: &Body, words: &mut Words<'_>) -> Result<Job, Reason>
 {
     let line = words.dec8().ok_or(Reason::Form)?;
     words.end()?;
-    if is_line(line) {
-        Ok(act(Access::Ack { line }))
-    } else {
-        Err(Reason::Form)
-    }
+    act_if(is_line(line), Access::Ack { line })
 }
 
 #[inline(never)]

@@ -14,9 +14,6 @@ ghost use Rattle.std.specs.Prelude.{
   Ok,
   OnOk,
   IfOk,
-  OnSome,
-  IfSome,
-  IfNone,
 };
 ghost use Rattle.std.specs.Bool.{OnTrue, OnFalse};
 ghost use Rattle.std.specs.Str.{bytes_eq};
@@ -26,10 +23,8 @@ ghost use Rattle.trace_text.specs.Lines.{
   IsOpen,
   IsEarly,
   IsStage,
-  IsRecordAt,
   fault_of,
   taken,
-  record_in,
   after_line,
   end_fault,
   IsItem,
@@ -37,8 +32,9 @@ ghost use Rattle.trace_text.specs.Lines.{
   step_of,
   item_in,
   stage_in,
-  met,
   is_skipped,
+  HasTaken,
+  HasRead,
 };
 ghost use Rattle.trace_text.specs.Records.{asking, reading};
 ghost use Rattle.trace_loop.specs.Progress.{limit_of};
@@ -155,50 +151,56 @@ impl Reading {
     /// Takes the next line, whose front was read, if it is a record that asks for an access as most do. None for any other,
     /// and for one that is refused: the reader then stays as it was. Nothing of it is in memory.
     #[inline(always)]
+    #[tactic(auto, unfolding(crate::specs::Lines::stepped))]
     pub fn take_usual(&mut self, front: &Front<'_>) -> Option<Asked>
         requires { self.old.lines < 2 ^ 63 }
-        ensures record { IfSome result (λ a. taken self.old front.now ≡ Ok (Item.Next (asking a))) }
-        ensures state { OnSome result (self.new ≡ after_line front.now self.old) }
-        ensures valid { IfSome result (λ a. IsRecordAt self.old.stage (asking a)) }
-        ensures open { OnSome result (IsOpen self.new.stage) }
-        ensures none { IfNone result (self.new ≡ self.old) }
+        ensures { HasTaken asking self.old front.now result self.new }
     {
-        let asked = self.parts.stage.take_usual(front)?;
+        // This brings the invariant of the front into the proof.
+        let _line = front.line();
+        let asked = match &mut self.parts.stage {
+            Stage::Running(body) => body.take_usual(front)?,
+            _ => return None,
+        };
         self.parts.lines += 1;
         Some(asked)
     }
 
     /// The same of a record that reads the clock.
     #[inline(always)]
+    #[tactic(auto, unfolding(crate::specs::Lines::stepped))]
     pub fn take_clock(&mut self, front: &Front<'_>) -> Option<ClockRead>
         requires { self.old.lines < 2 ^ 63 }
-        ensures record { IfSome result (λ r. taken self.old front.now ≡ Ok (Item.Next (reading r))) }
-        ensures state { OnSome result (self.new ≡ after_line front.now self.old) }
-        ensures valid { IfSome result (λ r. IsRecordAt self.old.stage (reading r)) }
-        ensures open { OnSome result (IsOpen self.new.stage) }
-        ensures none { IfNone result (self.new ≡ self.old) }
+        ensures { HasTaken reading self.old front.now result self.new }
     {
-        let read = self.parts.stage.take_clock(front)?;
+        // This brings the invariant of the front into the proof.
+        let _line = front.line();
+        let read = match &mut self.parts.stage {
+            Stage::Running(body) => body.take_clock(front)?,
+            _ => return None,
+        };
         self.parts.lines += 1;
         Some(read)
     }
 
-    /// Takes the next line, whose front was read, as `read_record` does.
+    /// Takes the next line, whose front was read, as `read_record` does. A usual access has no fast way here, since
+    /// `take_usual` comes before.
     #[inline(always)]
+    #[tactic(auto, unfolding(crate::specs::Lines::stepped))]
     pub fn read_after(&mut self, front: &Front<'_>, into: &mut Record) -> bool
         requires { self.old.lines < 2 ^ 63 }
-        ensures record { OnTrue result (taken self.old front.now ≡ Ok (Item.Next into.new)) }
-        ensures cause { OnFalse result (record_in (taken self.old front.now) ≡ None) }
-        ensures state { OnTrue result (self.new ≡ after_line front.now self.old) }
-        ensures valid { OnTrue result (IsRecordAt self.old.stage into.new) }
-        ensures open { OnTrue result (IsOpen self.new.stage) }
-        ensures none { OnFalse result (self.new ≡ self.old) }
+        ensures { HasRead self.old front.now result into.new self.new }
     {
-        if !self.parts.stage.read_after(front, into) {
-            return false;
+        // This brings the invariant of the front into the proof.
+        let _line = front.line();
+        let is_read = match &mut self.parts.stage {
+            Stage::Running(body) => body.read_after(front, into),
+            _ => false,
+        };
+        if is_read {
+            self.parts.lines += 1;
         }
-        self.parts.lines += 1;
-        true
+        is_read
     }
 
     /// Takes the next line if it is a record, into one that is there: true where it is. For any other line, and for a
@@ -207,35 +209,33 @@ impl Reading {
     #[inline(always)]
     pub fn read_record(&mut self, line: &[u8], into: &mut Record) -> bool
         requires { self.old.lines < 2 ^ 63 }
-        ensures record { OnTrue result (taken self.old line.now ≡ Ok (Item.Next into.new)) }
-        ensures cause { OnFalse result (record_in (taken self.old line.now) ≡ None) }
-        ensures state { OnTrue result (self.new ≡ after_line line.now self.old) }
-        ensures valid { OnTrue result (IsRecordAt self.old.stage into.new) }
-        ensures open { OnTrue result (IsOpen self.new.stage) }
-        ensures none { OnFalse result (self.new ≡ self.old) }
+        ensures { HasRead self.old line.now result into.new self.new }
     {
-        match &Front::of(line) {
-            Some(front) => self.read_after(front, into),
-            None => self.read_apart(line, into),
+        let Some(front) = &Front::of(line) else {
+            return self.read_apart(line, into);
+        };
+        if let Some(asked) = self.take_usual(front) {
+            *into = asked.record();
+            return true;
         }
+        self.read_after(front, into)
     }
 
     /// The same, apart from where it is called, and for a line of any front.
     #[inline(never)]
+    #[tactic(auto, unfolding(crate::specs::Lines::stepped))]
     pub fn read_apart(&mut self, line: &[u8], into: &mut Record) -> bool
         requires { self.old.lines < 2 ^ 63 }
-        ensures record { OnTrue result (taken self.old line.now ≡ Ok (Item.Next into.new)) }
-        ensures cause { OnFalse result (record_in (taken self.old line.now) ≡ None) }
-        ensures state { OnTrue result (self.new ≡ after_line line.now self.old) }
-        ensures valid { OnTrue result (IsRecordAt self.old.stage into.new) }
-        ensures open { OnTrue result (IsOpen self.new.stage) }
-        ensures none { OnFalse result (self.new ≡ self.old) }
+        ensures { HasRead self.old line.now result into.new self.new }
     {
-        if !self.parts.stage.read(line, into) {
-            return false;
+        let is_read = match &mut self.parts.stage {
+            Stage::Running(body) if may_be_record(line) => body.read(Words::new(line), into),
+            _ => false,
+        };
+        if is_read {
+            self.parts.lines += 1;
         }
-        self.parts.lines += 1;
-        true
+        is_read
     }
 
     /// The input ends before `end`: why the trace is refused, at the line after the last one. `end` must not have
@@ -264,88 +264,6 @@ impl Stage {
         match *self {
             Stage::Refused(fault) => Some(fault),
             _ => None,
-        }
-    }
-
-    /// Takes a record after `begin` that asks for a usual access; None for any other line, and for one that is refused,
-    /// which change nothing.
-    #[inline(always)]
-    #[tactic(auto, unfolding(crate::specs::Lines::stepped))]
-    fn take_usual(&mut self, front: &Front<'_>) -> Option<Asked>
-        requires valid { IsStage self.old }
-        ensures record { IfSome result (λ a. stepped self.old front.now ≡ Ok (met (asking a) self.new)) }
-        ensures valid { IfSome result (λ a. IsRecordAt self.old (asking a)) }
-        ensures open { OnSome result (IsOpen self.new) }
-        ensures kept { IsStage self.new }
-        ensures fresh { OnSome result (fault_of self.old ≡ None) }
-        ensures none { IfNone result (self.new ≡ self.old) }
-    {
-        // What the front's line is says that its words are a record's.
-        let _line = front.line();
-        match self {
-            Stage::Running(body) => body.take_usual(front),
-            _ => None,
-        }
-    }
-
-    /// The same of a record that reads the clock.
-    #[inline(always)]
-    #[tactic(auto, unfolding(crate::specs::Lines::stepped))]
-    fn take_clock(&mut self, front: &Front<'_>) -> Option<ClockRead>
-        requires valid { IsStage self.old }
-        ensures record { IfSome result (λ r. stepped self.old front.now ≡ Ok (met (reading r) self.new)) }
-        ensures valid { IfSome result (λ r. IsRecordAt self.old (reading r)) }
-        ensures open { OnSome result (IsOpen self.new) }
-        ensures kept { IsStage self.new }
-        ensures fresh { OnSome result (fault_of self.old ≡ None) }
-        ensures none { IfNone result (self.new ≡ self.old) }
-    {
-        // What the front's line is says that its words are a record's.
-        let _line = front.line();
-        match self {
-            Stage::Running(body) => body.take_clock(front),
-            _ => None,
-        }
-    }
-
-    /// Reads a record after `begin`, of a line whose front was read; false for any other line, and for one that is refused,
-    /// which change nothing.
-    #[inline(always)]
-    #[tactic(auto, unfolding(crate::specs::Lines::stepped))]
-    fn read_after(&mut self, front: &Front<'_>, into: &mut Record) -> bool
-        requires valid { IsStage self.old }
-        ensures record { OnTrue result (stepped self.old front.now ≡ Ok (met into.new self.new)) }
-        ensures cause { OnFalse result (record_in (item_in (stepped self.old front.now)) ≡ None) }
-        ensures valid { OnTrue result (IsRecordAt self.old into.new) }
-        ensures open { OnTrue result (IsOpen self.new) }
-        ensures kept { IsStage self.new }
-        ensures fresh { OnTrue result (fault_of self.old ≡ None) }
-        ensures none { OnFalse result (self.new ≡ self.old) }
-    {
-        // What the front's line is says that its words are a record's.
-        let _line = front.line();
-        match self {
-            Stage::Running(body) => body.read_after(front, into),
-            _ => false,
-        }
-    }
-
-    /// The same of a line of any front.
-    #[inline(always)]
-    #[tactic(auto, unfolding(crate::specs::Lines::stepped))]
-    fn read(&mut self, line: &[u8], into: &mut Record) -> bool
-        requires valid { IsStage self.old }
-        ensures record { OnTrue result (stepped self.old line.now ≡ Ok (met into.new self.new)) }
-        ensures cause { OnFalse result (record_in (item_in (stepped self.old line.now)) ≡ None) }
-        ensures valid { OnTrue result (IsRecordAt self.old into.new) }
-        ensures open { OnTrue result (IsOpen self.new) }
-        ensures kept { IsStage self.new }
-        ensures fresh { OnTrue result (fault_of self.old ≡ None) }
-        ensures none { OnFalse result (self.new ≡ self.old) }
-    {
-        match self {
-            Stage::Running(body) if may_be_record(line) => body.read(Words::new(line), into),
-            _ => false,
         }
     }
 

@@ -1,5 +1,5 @@
 //! Records: what a processor does at a host counter.
-ghost use Rattle.std.specs.Prelude.{◌≡◌, ◌<◌, ◌≤◌, Ok, IfOk, OnErr, IsErr, IfSome, IfNone, replicate, slice_index};
+ghost use Rattle.std.specs.Prelude.{◌≡◌, ◌<◌, ◌≤◌, Ok, IfOk, OnErr, IsErr, IfSome, IfNone, replicate};
 ghost use Rattle.std.specs.Bool.{OnTrue, OnFalse};
 ghost use Rattle.trace_text.specs.Tokens.{words_of};
 ghost use Rattle.trace_text.specs.Records.{
@@ -11,7 +11,7 @@ ghost use Rattle.trace_text.specs.Records.{
   IsJob,
   IsRecord,
 };
-ghost use Rattle.trace_text.specs.private.Reads.{IsReadInto};
+ghost use Rattle.trace_text.specs.private.Reads.{IsReadInto, IsTaken, IsTurn};
 
 use crate::front::Front;
 use crate::groups::job_in;
@@ -86,6 +86,20 @@ pub struct Body {
     pub(crate) before: [u64; 64],
 }
 
+impl Asked {
+    /// The record that it is.
+    #[inline(always)]
+    pub(crate) fn record(self) -> Record
+        ensures { result ≡ asking self }
+    {
+        Record {
+            cpu: self.cpu,
+            h: self.h,
+            job: act(self.access),
+        }
+    }
+}
+
 impl Body {
     /// The record of these words, which is remembered for its processor.
     #[inline(never)]
@@ -118,18 +132,10 @@ impl Body {
     #[tactic(auto, unfolding(crate::specs::Records::record_of))]
     pub(crate) fn take_usual(&mut self, front: &Front<'_>) -> Option<Asked>
         requires { self.old.cpus ≤ 64 }
-        ensures record { IfSome result (λ a. record_of self.old (words_of front.now) ≡ Ok (asking a)) }
-        ensures valid { IfSome result (λ a. IsRecord self.old (asking a)) }
-        ensures next { IfSome result (λ a. self.new ≡ body_after self.old (asking a)) }
-        ensures still { IfNone result (self.new ≡ self.old) }
+        ensures { IsTaken asking self.old (words_of front.now) result self.new }
     {
         let access = usual_access(self, front.left())?;
-        let cpu = front.cpu();
-        let h = front.counter();
-        if !self.is_in_turn(cpu, h) {
-            return None;
-        }
-        let cpu = cpu as u8;
+        let (cpu, h) = self.turn(front)?;
         self.before[cpu as usize] = h;
         Some(Asked { cpu, h, access })
     }
@@ -139,18 +145,10 @@ impl Body {
     #[tactic(auto, unfolding(crate::specs::Records::record_of))]
     pub(crate) fn take_clock(&mut self, front: &Front<'_>) -> Option<ClockRead>
         requires { self.old.cpus ≤ 64 }
-        ensures record { IfSome result (λ r. record_of self.old (words_of front.now) ≡ Ok (reading r)) }
-        ensures valid { IfSome result (λ r. IsRecord self.old (reading r)) }
-        ensures next { IfSome result (λ r. self.new ≡ body_after self.old (reading r)) }
-        ensures still { IfNone result (self.new ≡ self.old) }
+        ensures { IsTaken reading self.old (words_of front.now) result self.new }
     {
         let page = usual_clock(self, front.left())?;
-        let cpu = front.cpu();
-        let h = front.counter();
-        if !self.is_in_turn(cpu, h) {
-            return None;
-        }
-        let cpu = cpu as u8;
+        let (cpu, h) = self.turn(front)?;
         self.before[cpu as usize] = h;
         Some(ClockRead { cpu, h, page })
     }
@@ -166,14 +164,12 @@ impl Body {
         if !read_job(self, front.left(), &mut into.job) {
             return false;
         }
-        let cpu = front.cpu();
-        let h = front.counter();
-        if !self.is_in_turn(cpu, h) {
+        let Some((cpu, h)) = self.turn(front) else {
             return false;
-        }
-        into.cpu = cpu as u8;
+        };
+        into.cpu = cpu;
         into.h = h;
-        self.remember(into.cpu, h, &into.job);
+        self.remember(cpu, h, &into.job);
         true
     }
 
@@ -191,15 +187,21 @@ impl Body {
         }
     }
 
-    /// Whether there is such a processor, and its counter didn't fall.
+    /// Whose turn it is: the processor and the counter of this front, if there is such a processor and its counter didn't fall.
     #[inline(always)]
-    fn is_in_turn(&self, cpu: u64, h: u64) -> bool
+    #[tactic(auto, unfolding(crate::specs::Records::record_of))]
+    fn turn(&self, front: &Front<'_>) -> Option<(u8, u64)>
         requires { self.now.cpus ≤ 64 }
-        ensures there { OnTrue result (cpu < self.now.cpus) }
-        ensures counter { OnTrue result (slice_index self.now.before cpu ≤ h) }
-        ensures cause { OnFalse result (cpu < self.now.cpus → h < slice_index self.now.before cpu) }
+        ensures turn { IfSome result (λ t. IsTurn self.now (words_of front.now) t.0 t.1) }
+        ensures cause { IfNone result (IsErr (record_of self.now (words_of front.now))) }
     {
-        cpu < u64::from(self.cpus) && h >= self.before[cpu as usize]
+        let cpu = front.cpu();
+        let h = front.counter();
+        if cpu < u64::from(self.cpus) && h >= self.before[cpu as usize] {
+            Some((cpu as u8, h))
+        } else {
+            None
+        }
     }
 
     /// Remembers the counter of a record for its processor, and that of the new host for all where the board moves.
@@ -224,24 +226,11 @@ impl Body {
     }
 }
 
-/// Puts what a record does in its place, by the bytes after the counter; false where it does nothing that there is. The
-/// usual accesses are read here, and the rest apart.
-#[inline(always)]
-fn read_job(body: &Body, left: &[u8], into: &mut Job) -> bool
-    ensures job { OnTrue result (job_of body.now (words_of left.now) ≡ Ok into.new) }
-    ensures cause { OnFalse result (IsErr (job_of body.now (words_of left.now))) }
-    ensures valid { OnTrue result (IsJob body.now into.new) }
-{
-    if let Some(access) = usual_access(body, left) {
-        *into = act(access);
-        return true;
-    }
-    read_job_apart(body, left, into)
-}
-
-/// The same, apart from where it is called. What guests ask often is read by its bytes, and the rest by its words.
+/// Puts what a record does in its place, by the bytes after the counter; false where it does nothing that there is. It is
+/// apart from where it is called. What guests ask often is read by its bytes, and the rest by its words. The usual accesses
+/// aren't tested for: `take_usual` has done so.
 #[inline(never)]
-fn read_job_apart(body: &Body, left: &[u8], into: &mut Job) -> bool
+fn read_job(body: &Body, left: &[u8], into: &mut Job) -> bool
     ensures job { OnTrue result (job_of body.now (words_of left.now) ≡ Ok into.new) }
     ensures cause { OnFalse result (IsErr (job_of body.now (words_of left.now))) }
     ensures valid { OnTrue result (IsJob body.now into.new) }

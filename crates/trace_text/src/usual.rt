@@ -1,6 +1,6 @@
 //! What most records do, as programs write them: `in`, `out`, `step`, `ack` and the read `hr f0 8` of the HPET's main counter, which
 //! are read where a line is answered, and `clock`, `hw`, `refresh` and other reads of the HPET, which are read in a call.
-ghost use Rattle.std.specs.Prelude.{◌≡◌, ◌≤◌, ◌%◌, ◌^◌, ◌++◌, [], length, take, codes, Ok, IfSome};
+ghost use Rattle.std.specs.Prelude.{◌≡◌, ℕ, ◌<◌, ◌≤◌, ◌%◌, ◌^◌, ◌++◌, [], length, take, codes, Ok, IfSome};
 ghost use lib.Lanes.{number_l};
 ghost use Rattle.trace_text.specs.Tokens.{words_of};
 ghost use Rattle.trace_text.specs.Records.{
@@ -11,8 +11,8 @@ ghost use Rattle.trace_text.specs.Records.{
   hw_row,
   line_row,
   page_row,
-  IsJob,
 };
+ghost use Rattle.trace_text.specs.private.Reads.{IsJobOf, acting};
 
 use crate::jobs::act;
 use crate::records::{Body, Call, Job};
@@ -33,13 +33,13 @@ const ACK: u32 = 0x206b_6361;
 /// The same of `out `.
 const OUT: u32 = 0x2074_756f;
 
-/// The same of the front of `clock `.
+/// The same of the first four bytes of `clock `.
 const CLOC: u32 = 0x636f_6c63;
 
-/// The same of the front of `refresh `.
+/// The same of the first four bytes of `refresh `.
 const REFR: u32 = 0x7266_6572;
 
-/// The same of the front of `hr f0 8`.
+/// The same of the first four bytes of `hr f0 8`.
 const COUNTER: u32 = 0x6620_7268;
 
 /// The same of `hr `.
@@ -53,20 +53,19 @@ const HW: u32 = 0x20_7768;
 /// line's end. It is small, so that the answer to a line is inlined in the loop over the lines.
 #[inline(always)]
 pub(crate) fn usual_access(body: &Body, left: &[u8]) -> Option<Access>
-    ensures job { IfSome result (λ a. job_of body.now (words_of left.now) ≡ Ok (Job.Ask (Call.Act a))) }
-    ensures valid { IfSome result (λ a. IsJob body.now (Job.Ask (Call.Act a))) }
+    ensures { IsJobOf acting body.now (job_of body.now (words_of left.now)) result }
 {
     if left.len() < 4 {
         return None;
     }
-    let front = first_four(left);
-    if front % 0x100_0000 == IN {
+    let prefix = first_four(left);
+    if prefix % 0x100_0000 == IN {
         if left.len() != b"in 40".len() {
             return None;
         }
         return usual_in(body, &mut Words::new(&left[3..]));
     }
-    match front {
+    match prefix {
         STEP => usual_step(&left[4..]),
         ACK => {
             if left.len() != b"ack 0".len() {
@@ -88,38 +87,37 @@ pub(crate) fn usual_access(body: &Body, left: &[u8]) -> Option<Access>
 /// The page by which a record reads the clock, by the bytes after the counter; None for what others do.
 #[inline(always)]
 pub(crate) fn usual_clock(body: &Body, left: &[u8]) -> Option<u8>
-    ensures job { IfSome result (λ p. job_of body.now (words_of left.now) ≡ Ok (Job.Ask (Call.ReadClock p))) }
-    ensures valid { IfSome result (λ p. IsJob body.now (Job.Ask (Call.ReadClock p))) }
+    ensures { IsJobOf (λ p. Job.Ask (Call.ReadClock p)) body.now (job_of body.now (words_of left.now)) result }
 {
     if left.len() < 4 {
         return None;
     }
-    let front = first_four(left);
-    if front != CLOC {
+    let prefix = first_four(left);
+    if prefix != CLOC {
         return None;
     }
-    let page = after(&left[4..], b"k ")?;
-    if page.len() > 2 {
+    let digits = after(&left[4..], b"k ")?;
+    if digits.len() > 2 {
         return None;
     }
-    usual_page(body, &mut Words::new(page))
+    usual_page(body, &mut Words::new(digits))
 }
 
 /// What other records do that guests often ask, by the bytes after the counter; None also for what the rest do.
 #[inline(always)]
 pub(crate) fn usual_job(body: &Body, left: &[u8]) -> Option<Job>
-    ensures job { IfSome result (λ j. job_of body.now (words_of left.now) ≡ Ok j) }
-    ensures valid { IfSome result (IsJob body.now) }
+    ensures { IsJobOf (λ j. j) body.now (job_of body.now (words_of left.now)) result }
 {
     if left.len() < 4 {
         return None;
     }
-    let front = first_four(left);
-    if front == REFR {
-        let page = after(&left[4..], b"esh ")?;
-        return usual_refresh(body, &mut Words::new(page));
+    let prefix = first_four(left);
+    if prefix == REFR {
+        let digits = after(&left[4..], b"esh ")?;
+        let page = usual_page(body, &mut Words::new(digits))?;
+        return Some(act(Access::Refresh { page }));
     }
-    match front % 0x100_0000 {
+    match prefix % 0x100_0000 {
         HR => {
             if left.len() != b"hr f0 8".len() {
                 return None;
@@ -140,21 +138,21 @@ fn first_four(text: &[u8]) -> u32
     u32x1::from_le_bytes(u8x4::from_slice(text)).to_array()[0]
 }
 
-/// The bytes after others, if these come first. A loop, which the compiler unrolls for a name that it knows, where
+/// The bytes after a prefix, if a text begins with it. A loop, which the compiler unrolls for a name that it knows, where
 /// `strip_prefix` is a call.
 #[inline(always)]
-fn after<'a>(text: &'a [u8], front: &[u8]) -> Option<&'a [u8]>
-    ensures { IfSome result (λ rest. text.now ≡ front.now ++ rest.now) }
+fn after<'a>(text: &'a [u8], prefix: &[u8]) -> Option<&'a [u8]>
+    ensures { IfSome result (λ rest. text.now ≡ prefix.now ++ rest.now) }
 {
-    if text.len() < front.len() {
+    if text.len() < prefix.len() {
         return None;
     }
-    for i in 0..front.len() {
-        if text[i] != front[i] {
+    for i in 0..prefix.len() {
+        if text[i] != prefix[i] {
             return None;
         }
     }
-    Some(&text[front.len()..])
+    Some(&text[prefix.len()..])
 }
 
 /// A step, if nothing comes after its name.
@@ -169,7 +167,7 @@ fn usual_step(more: &[u8]) -> Option<Access>
     }
 }
 
-/// A read of the whole main counter, if this comes after the front of its name.
+/// A read of the whole main counter, if this comes after the first four bytes.
 #[inline(always)]
 fn usual_counter(more: &[u8]) -> Option<Access>
     ensures job { IfSome result (λ a. (more.now ≡ codes "0 8") × (a ≡ Access.HpetRead 0xf0 8)) }
@@ -186,8 +184,7 @@ fn usual_counter(more: &[u8]) -> Option<Access>
 /// The port, if it has two digits.
 #[inline(always)]
 fn usual_in(body: &Body, words: &mut Words<'_>) -> Option<Access>
-    ensures job { IfSome result (λ a. in_row body.now words.old ≡ Ok (Job.Ask (Call.Act a))) }
-    ensures valid { IfSome result (λ a. IsJob body.now (Job.Ask (Call.Act a))) }
+    ensures { IsJobOf acting body.now (in_row body.now words.old) result }
 {
     let port = words.usual_port()?;
     if words.end().is_err() {
@@ -199,8 +196,7 @@ fn usual_in(body: &Body, words: &mut Words<'_>) -> Option<Access>
 /// The port and the byte, if they have two digits.
 #[inline(always)]
 fn usual_out(body: &Body, words: &mut Words<'_>) -> Option<Access>
-    ensures job { IfSome result (λ a. out_row body.now words.old ≡ Ok (Job.Ask (Call.Act a))) }
-    ensures valid { IfSome result (λ a. IsJob body.now (Job.Ask (Call.Act a))) }
+    ensures { IsJobOf acting body.now (out_row body.now words.old) result }
 {
     let port = words.usual_port()?;
     let byte = words.two_digits()?;
@@ -213,8 +209,7 @@ fn usual_out(body: &Body, words: &mut Words<'_>) -> Option<Access>
 /// The offset and the width, if they have two digits and one, as those of the main counter have.
 #[inline(always)]
 fn usual_hr(body: &Body, words: &mut Words<'_>) -> Option<Job>
-    ensures job { IfSome result (λ j. hr_row body.now words.old ≡ Ok j) }
-    ensures valid { IfSome result (IsJob body.now) }
+    ensures { IsJobOf (λ j. j) body.now (hr_row body.now words.old) result }
 {
     let offset = u16::from(words.two_digits()?);
     let width = words.one_digit()?;
@@ -228,8 +223,7 @@ fn usual_hr(body: &Body, words: &mut Words<'_>) -> Option<Job>
 /// The line, if its number has one digit.
 #[inline(always)]
 fn usual_ack(body: &Body, words: &mut Words<'_>) -> Option<Access>
-    ensures job { IfSome result (λ a. line_row body.now Access.Ack words.old ≡ Ok (Job.Ask (Call.Act a))) }
-    ensures valid { IfSome result (λ a. IsJob body.now (Job.Ask (Call.Act a))) }
+    ensures { IsJobOf acting body.now (line_row body.now Access.Ack words.old) result }
 {
     let line = words.one_digit()?;
     if words.end().is_err() || line >= 0x100 || !is_line(line as u8) {
@@ -242,9 +236,9 @@ fn usual_ack(body: &Body, words: &mut Words<'_>) -> Option<Access>
 /// The page, if its number has one digit or two.
 #[inline(always)]
 fn usual_page(body: &Body, words: &mut Words<'_>) -> Option<u8>
-    ensures job { IfSome result (λ p. page_row body.now Call.ReadClock words.old
-        ≡ Ok (Job.Ask (Call.ReadClock p))) }
-    ensures valid { IfSome result (λ p. IsJob body.now (Job.Ask (Call.ReadClock p))) }
+    ensures job { IfSome result (λ p. (call : ℕ → Call) → page_row body.now call words.old
+        ≡ Ok (Job.Ask (call p))) }
+    ensures valid { IfSome result (λ p. p < body.now.cpus) }
 {
     let page = words.usual_dec()?;
     if words.end().is_err() || page >= u64::from(body.cpus) {
@@ -254,25 +248,10 @@ fn usual_page(body: &Body, words: &mut Words<'_>) -> Option<u8>
     Some(page)
 }
 
-/// The same of a refresh.
-#[inline(always)]
-fn usual_refresh(body: &Body, words: &mut Words<'_>) -> Option<Job>
-    ensures job { IfSome result (λ j. page_row body.now (λ p. Call.Act (Access.Refresh p)) words.old ≡ Ok j) }
-    ensures valid { IfSome result (IsJob body.now) }
-{
-    let page = words.usual_dec()?;
-    if words.end().is_err() || page >= u64::from(body.cpus) {
-        return None;
-    }
-    let page = page as u8;
-    Some(act(Access::Refresh { page }))
-}
-
 /// The offset, the width and the value, if the width has one digit.
 #[inline(always)]
 fn usual_hw(body: &Body, words: &mut Words<'_>) -> Option<Job>
-    ensures job { IfSome result (λ j. hw_row body.now words.old ≡ Ok j) }
-    ensures valid { IfSome result (IsJob body.now) }
+    ensures { IsJobOf (λ j. j) body.now (hw_row body.now words.old) result }
 {
     let offset = words.usual_hex()?;
     let width = words.one_digit()?;

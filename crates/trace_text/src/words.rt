@@ -412,19 +412,6 @@ impl<'a> Words<'a> {
         if n < 0x100 { Some(n as u8) } else { None }
     }
 
-    /// The next word as a DEC of 32 bits.
-    pub(crate) fn dec32(&mut self) -> Option<u32>
-        ensures value { result ≡ dec_of_bits 32 self.old }
-        ensures past { OnSome result (self.new ≡ rest self.old) }
-    {
-        let n = self.dec()?;
-        if n < 0x1_0000_0000 {
-            Some(n as u32)
-        } else {
-            None
-        }
-    }
-
     /// The next word as a HEX of 8 bits.
     #[inline(always)]
     pub(crate) fn hex8(&mut self) -> Option<u8>

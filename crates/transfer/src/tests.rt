@@ -9,39 +9,22 @@ use board_core::{
 use host_counter::Anchor;
 use irq_edges::Edge;
 use pvclock_page::{ClockReply, Page};
-use rtc_calendar::TimeBytes;
 use std::process::Abort;
-use tick_policy::{Counts, Policy};
+use tick_policy::Counts;
 
 /// A host of 1 GHz, a guest of 2 GHz, and one processor.
 fn setup(base_ns: u64) -> Setup
     requires { base_ns ≤ 1000000000000 }
     ensures { IsSetup result }
 {
+    let usual = Setup::by_default(1);
     Setup {
-        format: 1,
         anchor: Anchor {
-            khz: 1_000_000,
-            start: 0,
             base_ns,
+            ..usual.anchor
         },
         guest_khz: 2_000_000,
-        cpus: 1,
-        pit: Policy::Delay,
-        rtc: Policy::Delay,
-        hpet: Policy::Delay,
-        slew_ns: 1_000_000,
-        wall_sec: 0,
-        wall_nsec: 0,
-        time: TimeBytes {
-            sec: 0,
-            min: 0,
-            hour: 0,
-            wday: 1,
-            date: 1,
-            month: 1,
-            year: 0,
-        },
+        ..usual
     }
 }
 

@@ -1,5 +1,4 @@
 //! A board that lags under its lock.
-ghost use Rattle.std.specs.Prelude.{◌≡◌};
 ghost use Rattle.shared_board.specs.Asks.{MayAsk};
 
 use super::*;
@@ -9,28 +8,17 @@ const COUNTER: u16 = 0xf0;
 
 #[test]
 fn a_board_that_lagged_stops_as_a_plain_one(rt: HostRuntime) -> Result<(), Fail> {
-    let state = board();
-    let blank = blank(rt.alloc(), &state)?;
-    quiet_run::<Brand, _>(&rt, rt.alloc(), blank, state)
+    test_on(&rt, rt.alloc(), Case::QuietRun, plain_board(), 2)
 }
 
 /// The HPET counts, and two passes step and read its counter in turn: soon these accesses are only counted.
-fn quiet_run<N: Name, R: Wait + Abort>(
+pub(super) fn quiet_run<N: Name, R: Wait + Abort>(
     rt: &R,
     alloc: Global,
-    blank: Blank,
-    state: BoardState,
-) -> Result<(), Fail>
-    requires table { blank.0 ≡ N.table }
-    requires blank { blank.1 ≡ N.state }
-    requires state { state ≡ N.state }
-    requires cpus { N.state.cpus ≡ 2 }
-    requires passes { 2 ≡ N.passes }
-{
-    let (board, mut passes) = shared::<N>(alloc, blank, &state, 2)?;
-    let mut plain = state;
-    let mut one = passes.pop().ok_or("a pass")?;
-    let mut two = passes.pop().ok_or("a pass")?;
+    ready: Ready<N>,
+) -> Result<(), Fail> {
+    let (board, mut one, mut two) = ready.two()?;
+    let mut plain = plain_board();
     let enable = Access::HpetWrite {
         offset: 0x10,
         width: 8,
@@ -60,9 +48,7 @@ fn quiet_run<N: Name, R: Wait + Abort>(
         };
         answer_alike(rt, &board, &mut plain, &mut two, look);
     }
-    passes.push(one)?;
-    passes.push(two)?;
-    let state = stopped(board, passes)?;
+    let state = stopped(alloc, board, one, two)?;
     hold_the_same(rt, &state, &plain);
     Ok(())
 }

@@ -1,5 +1,5 @@
 //! Two threads on one board.
-ghost use Rattle.std.specs.Prelude.{◌≡◌, ◌<◌};
+ghost use Rattle.std.specs.Prelude.{◌<◌};
 
 use super::*;
 use board_io::Gate;
@@ -9,26 +9,16 @@ use std::thread::{Threads, join};
 
 #[test]
 fn each_number_comes_once(rt: HostRuntime) -> Result<(), Fail> {
-    let state = board();
-    let blank = blank(rt.alloc(), &state)?;
-    steps_of_two::<Brand, _>(&rt, rt.alloc(), blank, state)
+    test_on(&rt, rt.alloc(), Case::StepsOfTwo, plain_board(), 2)
 }
 
-fn steps_of_two<N: Name + Send + Sync, R: Threads + Wait + Abort + Sync>(
+/// Two threads make a hundred accesses each.
+pub(super) fn steps_of_two<N: Name + Send + Sync, R: Threads + Wait + Abort + Sync>(
     rt: &R,
     alloc: Global,
-    blank: Blank,
-    state: BoardState,
-) -> Result<(), Fail>
-    requires table { blank.0 ≡ N.table }
-    requires blank { blank.1 ≡ N.state }
-    requires state { state ≡ N.state }
-    requires cpus { N.state.cpus ≡ 2 }
-    requires passes { 2 ≡ N.passes }
-{
-    let (board, mut passes) = shared::<N>(alloc, blank, &state, 2)?;
-    let one = passes.pop().ok_or("a pass")?;
-    let two = passes.pop().ok_or("a pass")?;
+    ready: Ready<N>,
+) -> Result<(), Fail> {
+    let (board, one, two) = ready.two()?;
     let shared = &board;
     let (one, two) = join(
         rt,
@@ -49,9 +39,7 @@ fn steps_of_two<N: Name + Send + Sync, R: Threads + Wait + Abort + Sync>(
     for (number, wanted) in numbers.iter().zip(1..201) {
         assert_eq!(rt; *number, wanted);
     }
-    passes.push(one)?;
-    passes.push(two)?;
-    assert_eq!(rt; stopped(board, passes)?.accesses(), 200);
+    assert_eq!(rt; stopped(alloc, board, one, two)?.accesses(), 200);
     Ok(())
 }
 
@@ -74,26 +62,16 @@ fn hundred<N: Name>(
 
 #[test]
 fn no_page_is_torn_beside_a_writer(rt: HostRuntime) -> Result<(), Fail> {
-    let state = board();
-    let blank = blank(rt.alloc(), &state)?;
-    reads_beside::<Brand, _>(&rt, rt.alloc(), blank, state)
+    test_on(&rt, rt.alloc(), Case::ReadsBeside, plain_board(), 2)
 }
 
-fn reads_beside<N: Name + Send + Sync, R: Threads + Wait + Abort + Sync>(
+/// One thread publishes a page, and another reads it.
+pub(super) fn reads_beside<N: Name + Send + Sync, R: Threads + Wait + Abort + Sync>(
     rt: &R,
     alloc: Global,
-    blank: Blank,
-    state: BoardState,
-) -> Result<(), Fail>
-    requires table { blank.0 ≡ N.table }
-    requires blank { blank.1 ≡ N.state }
-    requires state { state ≡ N.state }
-    requires cpus { N.state.cpus ≡ 2 }
-    requires passes { 2 ≡ N.passes }
-{
-    let (board, mut passes) = shared::<N>(alloc, blank, &state, 2)?;
-    let mut one = passes.pop().ok_or("a pass")?;
-    let two = passes.pop().ok_or("a pass")?;
+    ready: Ready<N>,
+) -> Result<(), Fail> {
+    let (board, mut one, two) = ready.two()?;
     assert_eq!(rt; number(rt, &board, &mut one, 0, 0, ENABLE), 1);
     let shared = &board;
     let (one, (two, faults)) = join(
@@ -106,9 +84,7 @@ fn reads_beside<N: Name + Send + Sync, R: Threads + Wait + Abort + Sync>(
         { faults_read(rt, shared, two) },
     );
     assert_eq!(rt; faults, 0);
-    passes.push(one)?;
-    passes.push(two)?;
-    assert_eq!(rt; stopped(board, passes)?.accesses(), 10_001);
+    assert_eq!(rt; stopped(alloc, board, one, two)?.accesses(), 10_001);
     Ok(())
 }
 
@@ -174,26 +150,15 @@ impl Gate for Meeting {
 
 #[test]
 fn a_page_is_read_while_the_lock_is_held(rt: HostRuntime) -> Result<(), Fail> {
-    let state = board();
-    let blank = blank(rt.alloc(), &state)?;
-    met_inside::<Brand, _>(&rt, rt.alloc(), blank, state)
+    test_on(&rt, rt.alloc(), Case::MetInside, plain_board(), 2)
 }
 
-fn met_inside<N: Name + Send + Sync, R: Threads + Wait + Abort + Sync>(
+/// One thread has the lock until another has read a page.
+pub(super) fn met_inside<N: Name + Send + Sync, R: Threads + Wait + Abort + Sync>(
     rt: &R,
-    alloc: Global,
-    blank: Blank,
-    state: BoardState,
-) -> Result<(), Fail>
-    requires table { blank.0 ≡ N.table }
-    requires blank { blank.1 ≡ N.state }
-    requires state { state ≡ N.state }
-    requires cpus { N.state.cpus ≡ 2 }
-    requires passes { 2 ≡ N.passes }
-{
-    let (board, mut passes) = shared::<N>(alloc, blank, &state, 2)?;
-    let one = passes.pop().ok_or("a pass")?;
-    let two = passes.pop().ok_or("a pass")?;
+    ready: Ready<N>,
+) -> Result<(), Fail> {
+    let (board, one, two) = ready.two()?;
     let gate = Meeting {
         inside: AtomicBool::new(false),
         read: AtomicBool::new(false),

@@ -8,12 +8,14 @@ use crate::held::act;
 use crate::host::HostClock;
 use crate::lazy::LazyBox;
 use crate::tries::try_table_on;
-use clock_table::{Asked, Call, ClockTable, Field};
+use clock_table::{Asked, Blank, Call, ClockTable, Field};
+use setups::blank_of;
+use std::marker::Brand;
 
 #[test]
 fn a_try_meets_an_open_page(rt: HostRuntime) -> Result<(), Fail> {
-    let state = board();
-    let blank = blank(rt.alloc(), &state)?;
+    let state = plain_board();
+    let blank = blank_of(rt.alloc(), &state)?;
     tried_while_open::<Brand, _>(&rt, blank, state)
 }
 
@@ -43,8 +45,8 @@ fn tried_while_open<N: Name, R: Abort>(rt: &R, blank: Blank, state: BoardState) 
 
 #[test]
 fn a_read_that_spans_a_whole_update_is_none(rt: HostRuntime) -> Result<(), Fail> {
-    let state = board();
-    let blank = blank(rt.alloc(), &state)?;
+    let state = plain_board();
+    let blank = blank_of(rt.alloc(), &state)?;
     read_round_an_update::<Brand, _>(&rt, rt.alloc(), blank, state)
 }
 

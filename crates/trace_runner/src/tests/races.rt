@@ -31,7 +31,7 @@ fn a_race_of_one_processor_is_its_replay(rt: HostRuntime) -> Result<(), Fail> {
         Status::Ok,
         FIRST_RISE_TEXT,
     )?;
-    expect(&rt, &["race"], MOVED, &WELL, Status::Ok, MOVED_TEXT)?;
+    expect_text(&rt, &["race"], MOVED, MOVED_TEXT)?;
     Ok(())
 }
 
@@ -80,9 +80,8 @@ fn saves_and_the_last_state_in_a_race_of_one_processor(rt: HostRuntime) -> Resul
     ];
     for trace in [FIRST_RISE, MOVED, SAVED] {
         for (race, replay) in jobs {
-            let (status, text) = told(&rt, replay, trace, &WELL)?;
-            assert_eq!(rt; status, Status::Ok);
-            expect(&rt, race, trace, &WELL, Status::Ok, &text)?;
+            let text = text_of(&rt, replay, trace)?;
+            expect_text(&rt, race, trace, &text)?;
         }
     }
     Ok(())
@@ -91,9 +90,8 @@ fn saves_and_the_last_state_in_a_race_of_one_processor(rt: HostRuntime) -> Resul
 /// A save waits for both processors, so all from its line on is what a replay prints, whichever was first.
 #[test]
 fn a_save_ends_the_phase_of_both_processors(rt: HostRuntime) -> Result<(), Fail> {
-    let (_, replayed) = told(&rt, &["replay", "--state"], SAVED_BY_TWO, &WELL)?;
-    let (status, text) = told(&rt, &["race", "--state"], SAVED_BY_TWO, &WELL)?;
-    assert_eq!(rt; status, Status::Ok);
+    let replayed = text_of(&rt, &["replay", "--state"], SAVED_BY_TWO)?;
+    let text = text_of(&rt, &["race", "--state"], SAVED_BY_TWO)?;
     let rest = replayed.strip_prefix(b"4 1\n5 2\n".as_slice());
     let first = text.strip_prefix(b"4 1\n5 2\n".as_slice());
     let second = text.strip_prefix(b"4 2\n5 1\n".as_slice());
@@ -171,8 +169,7 @@ fn a_race_of_two_processors(rt: HostRuntime) -> Result<(), Fail> {
         b"5 2\n7 clock 1000 1000\n6 1\n8 3\nfinal 900 3 1000 -\n",
         b"5 3\n7 clock 1000 1000\n6 1\n8 2\nfinal 900 3 1000 -\n",
     ];
-    let (status, text) = told(&rt, &["race"], trace, &WELL)?;
-    assert_eq!(rt; status, Status::Ok);
+    let text = text_of(&rt, &["race"], trace)?;
     let told = text.as_slice();
     assert!(rt; told == texts[0] || told == texts[1] || told == texts[2]);
     Ok(())
@@ -189,9 +186,8 @@ fn a_race_of_several_pieces(rt: HostRuntime) -> Result<(), Fail> {
         trace.extend_from_slice(b"0 0 save\n")?;
     }
     trace.extend_from_slice(b"end\n")?;
-    let (status, text) = told(&rt, &["replay"], &trace, &WELL)?;
-    assert_eq!(rt; status, Status::Ok);
-    expect(&rt, &["race"], &trace, &WELL, Status::Ok, &text)?;
+    let text = text_of(&rt, &["replay"], &trace)?;
+    expect_text(&rt, &["race"], &trace, &text)?;
     Ok(())
 }
 
@@ -204,9 +200,8 @@ fn a_race_of_two_processors_in_several_pieces(rt: HostRuntime) -> Result<(), Fai
         trace.extend_from_slice(b"0 0 step\n1 0 step\n")?;
     }
     trace.extend_from_slice(b"end\n")?;
-    let (_, replayed) = told(&rt, &["replay"], &trace, &WELL)?;
-    let (status, text) = told(&rt, &["race"], &trace, &WELL)?;
-    assert_eq!(rt; status, Status::Ok);
+    let replayed = text_of(&rt, &["replay"], &trace)?;
+    let text = text_of(&rt, &["race"], &trace)?;
     assert_eq!(rt; text.len(), replayed.len());
     assert!(rt; text.ends_with(b"final 0 6000 0 -\n"));
     Ok(())

@@ -22,7 +22,7 @@ invariant_of-board c =
       lazy = c.take_passive-value.ensures.lazy;
       next = passed-next (caught_up c.board.inside.state c.board.inside.lag) next c.args.cpu c.args.host c.args.access _ c.requires.passive
           (c.count-later.ensures.passed c.args.cpu c.args.access c.requires.passive) c.board.inside.next
-          (runs-caught c.board.inside.state c.board.inside.lag c.cpus.ensures.joined) c.board.invariant.next
+          (runs-caught c.board.inside.state c.board.inside.lag c.joined.ensures) c.board.invariant.next
           ∙ ap (kept_of c.board.inside.next.known) (sym left);
       time = c.move_now-now_ns.ensures.kept ∙ c.move_now-now_ns.ensures.value ∙ sym (now-left c.args.access next) ∙ ap now_of (sym left);
     }

@@ -80,7 +80,7 @@ invariant_of-board-2 c =
     let is : HasTaken _ _ _ _ _ _ = on_true _ c.if-not-taken.false c.take_lagging-taken.ensures.taken in
     record {
       lazy = c.take_lagging-taken.ensures.lazy;
-      next = still-next _ _ _ _ _ _ _ _ _ (runs-caught c.board.inside.state c.board.inside.lag c.cpus.ensures.joined)
+      next = still-next _ _ _ _ _ _ _ _ _ (runs-caught c.board.inside.state c.board.inside.lag c.joined.ensures)
           (rw (sym c.lagging_now-now_ns.ensures.value) c.lagging_now-now_ns.ensures.range)
           is.state is.reply c.board.invariant.next c.keeps_next-kept.ensures c.keep_where.ensures;
       time = c.lagging_now-now_ns.ensures.value;

@@ -1,4 +1,4 @@
-use Rattle.std.proofs.Common.{false}
+use Rattle.std.proofs.Common.{false, arith}
 use Rattle.std.proofs.lemmas.List.{append-nil}
 use Rattle.irq_edges.proofs.EdgesOf.{changes-drop, change-differs, change-same, room_for, joined}
 use Rattle.irq_edges.proofs.lines.append_changes.Goals as goal
@@ -8,9 +8,11 @@ pub push-requires : goal.push-requires
 push-requires c =
     let first =
     changes-drop c.args.at c.args.lines.now c.args.before.now c.args.after.now c.loop-place.place false false
-    c.loop-place-test.true c.requires.levels_before c.requires.levels_after in
-    room_for c.loop-place.into _ c.args.into.now _ _ _ _ c.loop-place.invariant
-    (rw (change-differs c.args.at _ _ _ c.if-before-place.true) at first) c.requires.room
+    c.loop-place-test.true c.requires.levels_before c.requires.levels_after in (
+      omega arith,
+      room_for c.loop-place.into _ c.args.into.now _ _ _ _ c.loop-place.invariant
+          (rw (change-differs c.args.at _ _ _ c.if-before-place.true) at first) c.requires.room,
+    )
 
 pub loop-place-preserved : goal.loop-place-preserved
 loop-place-preserved c =

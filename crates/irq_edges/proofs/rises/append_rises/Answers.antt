@@ -19,9 +19,11 @@ first b t us place less long e = rising-drop t line_numbers us place None less l
     ++ rising t (drop (place + 1) line_numbers) (drop (place + 1) us)) e
 
 pub push-requires : goal.push-requires
-push-requires c =
-    room_for c.loop-place.into _ c.args.into.now _ _ _ _ c.loop-place.invariant.edges
-    (first true c.args.t c.args.times.now c.loop-place.place c.loop-place-test.true c.told-times (sym c.rises_at.ensures ∙ c.if-rises_at.true)) c.requires
+push-requires c = (
+  omega arith,
+  room_for c.loop-place.into _ c.args.into.now _ _ _ _ c.loop-place.invariant.edges
+      (first true c.args.t c.args.times.now c.loop-place.place c.loop-place-test.true c.told-times (sym c.rises_at.ensures ∙ c.if-rises_at.true)) c.requires,
+)
 
 pub returns-clause-next : goal.returns-clause-next
 returns-clause-next c =

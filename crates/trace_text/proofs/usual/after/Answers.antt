@@ -6,7 +6,7 @@ use Rattle.trace_text.proofs.usual.after.Goals as goal
 pub loop-i-preserved : goal.loop-i-preserved
 loop-i-preserved c =
     let text : List ℕ = c.args.text.now in
-    let front : List ℕ = c.args.front.now in
+    let front : List ℕ = c.args.prefix.now in
     let one : suc c.loop-i.i ≡ c.loop-i.i + 1 = omega arith in
     ap (λ (k : ℕ). take k text) (sym one) ∙ take-suc text c.loop-i.i 0 (omega arith)
     ∙ (λ j. c.loop-i.invariant j ++ (c.if-text-i.false j ∷ []))
@@ -24,5 +24,5 @@ begins n i text front all same begin =
 
 pub returns : goal.returns
 returns c =
-    begins (length c.args.front.now) c.loop-i.i c.args.text.now c.args.front.now (omega arith)
+    begins (length c.args.prefix.now) c.loop-i.i c.args.text.now c.args.prefix.now (omega arith)
     (omega (arith, c.loop-i-test.false, c.loop-i.auto.i-end)) c.loop-i.invariant

@@ -2,4 +2,4 @@ use Rattle.std.proofs.Common.{◌≡◌, take}
 use Rattle.trace_text.proofs.usual.after.Given as goal
 
 abbrev pub invariant-loop-i : goal.invariant-loop-i
-invariant-loop-i l = take l.i l.text ≡ take l.i l.front
+invariant-loop-i l = take l.i l.text ≡ take l.i l.prefix

@@ -5,4 +5,4 @@ use Rattle.board_core.proofs.board.BoardState.later_now.Goals as goal
 pub returns-clause-value : goal.returns-clause-value
 returns-clause-value c =
     c.time_beyond.ensures.value
-    ∙ sym (now-after_run c.args.self.now c.args.lag.now.host 0 (omega (arith, c.cpus-cpus.ensures.joined.rates.host.slow)))
+    ∙ sym (now-after_run c.args.self.now c.args.lag.now.host 0 (omega (arith, c.joined.ensures.rates.host.slow)))

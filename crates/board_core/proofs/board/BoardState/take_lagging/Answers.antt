@@ -1,5 +1,4 @@
-use Rattle.std.specs.Bool.{OnTrue, OnFalse}
-use Rattle.std.proofs.Common.{◌≡◌, ℕ, Bool, true, false, List, [], length, ap, sym, subst, ◌∙◌, arith}
+use Rattle.std.proofs.Common.{◌≡◌, ℕ, List, [], length, ap, sym, subst, ◌∙◌, arith}
 use Rattle.std.specs.List.{All}
 use Rattle.std.proofs.lemmas.List.Elements.{All-nil}
 use Rattle.irq_edges.specs.Lines.{IsOfLine}
@@ -66,12 +65,6 @@ returns-then-counts-clause-lazy c = elim c.match-a.branch [
 ]
 
 -- one that runs the board, from where it lags
-on_true : {P : Type 0} (b : Bool) → b ≡ true → OnTrue b P → P
-on_true {P} b is p = subst (λ (x : Bool). OnTrue x P) is p
-
-on_false : {P : Type 0} (b : Bool) → b ≡ false → OnFalse b P → P
-on_false {P} b is p = subst (λ (x : Bool). OnFalse x P) is p
-
 asked : (b c : BoardParts) (host cpu : ℕ) (a : Access) (reply : Reply) → after_run b host ≡ c → IsAsked c cpu a reply → IsAsked b cpu a reply
 unfolding after_run
 asked b c host cpu a reply same is =
@@ -85,19 +78,19 @@ take-requires c = asked c.catch_up_before.new.self (caught_up c.args.self.now c.
 pub returns-then-not-take-clause-left : goal.returns-then-not-take-clause-left
 returns-then-not-take-clause-left c =
     refused-caught (caught_up c.args.self.now c.args.lag.now) c.catch_up_before.new.self c.take.new.self c.catch_up_before.new.lag.host
-    c.args.h c.args.cpu c.args.a c.args.reply.now c.take.new.reply c.catch_up_before.ensures.same (on_false _ c.if-not-take.true c.take.ensures.left)
+    c.args.h c.args.cpu c.args.a c.args.reply.now c.take.new.reply c.catch_up_before.ensures.same c.if-not-take.ensures.left
 
 pub returns-then-passive-2-clause-taken : goal.returns-then-passive-2-clause-taken
 returns-then-passive-2-clause-taken c =
     taken-caught (caught_up c.args.self.now c.args.lag.now) c.catch_up_before.new.self c.take.new.self
     (caught_up c.take.new.self c.lag_on.new.lag) c.catch_up_before.new.lag.host c.catch_up_before.new.lag.horizon
     c.args.h c.args.cpu c.args.a c.take.new.reply c.catch_up_before.ensures.same
-    (omega (arith, c.cpus-cpus.ensures.joined.rates.host.slow)) c.catch_up_before.ensures.lazy c.catch_up_before.ensures.within
-    c.lag_on.ensures.same (on_true _ c.if-not-take.false c.take.ensures.taken)
+    (omega (arith, c.joined.ensures.rates.host.slow)) c.catch_up_before.ensures.lazy c.catch_up_before.ensures.within
+    c.lag_on.ensures.same c.if-not-take.ensures.taken
 
 pub returns-else-passive-2-clause-taken : goal.returns-else-passive-2-clause-taken
 returns-else-passive-2-clause-taken c =
     taken-caught (caught_up c.args.self.now c.args.lag.now) c.catch_up_before.new.self c.take.new.self (after_run c.take.new.self 0)
     c.catch_up_before.new.lag.host c.catch_up_before.new.lag.horizon c.args.h c.args.cpu c.args.a
-    c.take.new.reply c.catch_up_before.ensures.same (omega (arith, c.cpus-cpus.ensures.joined.rates.host.slow)) c.catch_up_before.ensures.lazy
-    c.catch_up_before.ensures.within (after_run-zero c.take.new.self) (on_true _ c.if-not-take.false c.take.ensures.taken)
+    c.take.new.reply c.catch_up_before.ensures.same (omega (arith, c.joined.ensures.rates.host.slow)) c.catch_up_before.ensures.lazy
+    c.catch_up_before.ensures.within (after_run-zero c.take.new.self) c.if-not-take.ensures.taken

@@ -84,7 +84,9 @@ pub run_timers-requires : goal.run_timers-requires
 run_timers-requires c = record {
   order = c.requires.stretch.order;
   range = c.requires.stretch.range;
-  inside = λ k less. rw c.requires.pulses.hpet at (inside (matches_of k c.self.inside.hpet) c.args.pulses.hpet c.args.pulses.hpet (timer_matches c.pulses-reach.new.matches k).first (omega arith) (c.pulses-reach.ensures.first k));
+  inside = λ k less. rw c.requires.pulses.hpet at
+      (inside (matches_of k c.self.inside.hpet) c.args.pulses.hpet c.args.pulses.hpet (timer_matches c.pulses-reach.new.matches k).first
+      (omega arith) (c.pulses-reach.ensures.first k));
   room = λ k less.
       let place : k + 2 ≡ suc (suc k) = omega arith in
       let room : (line_at (k + 2) (parts_of c.self.inside)).counts.due + (c.args.to - c.args.from) < 2 ^ 63 =
@@ -447,9 +449,12 @@ still_state : (c : goal.After-take_matches)
       ticks = c.take_matches.new.lines;
       slew_ns = c.self.inside.slew_ns;
     }) ≡ (run c.args.from (c.args.to - c.args.from) (parts_of c.self.inside)).state
-still_state c = ran-state (known (still_pulsed c)) c.next_point-point.result c.args.to c.take_matches.new.lines c.pulses-rises.new.self
-    (rtc_pulsed_times (left_pulses c.args.from c.args.to c.self.inside.rtc) c.pulses-events.new.self) c.pulses-reach.new.self (point_is (still_pulsed c)) (end_is (still_pulsed c)) c.take_matches.ensures.places (still_ends c)
-    (rw c.requires.pulses.pit at c.pulses-rises.ensures.state) (still_rtc_is c) (hpet_is (still_pulsed c))
+still_state c =
+    let before : After-pulses-events = still_pulsed c in
+    ran-state (known before) c.next_point-point.result c.args.to c.take_matches.new.lines c.pulses-rises.new.self
+    (rtc_pulsed_times (left_pulses c.args.from c.args.to c.self.inside.rtc) c.pulses-events.new.self) c.pulses-reach.new.self
+    (point_is before) (end_is before) c.take_matches.ensures.places (still_ends c)
+    (rw c.requires.pulses.pit at c.pulses-rises.ensures.state) (still_rtc_is c) (hpet_is before)
 
 still_joined : (c : goal.After-take_matches)
     → IsDevices (parts_of (record {
@@ -501,7 +506,8 @@ found c (suc zero) less some =
 found c (suc (suc k)) less some =
     let due : (has_ticks k c.self.inside.hpet ≡ true)
     × (0 < matches_of k c.self.inside.hpet (pulses_from HPET_HZ c.args.from (c.args.to - c.args.from))) = some_where _ _ some in
-    let count : 0 < (timer_matches c.pulses-reach.new.matches k).count = omega (arith, due.1, (brought (still_pulsed c)).timer_count k (enabled_of k c.self.inside.hpet due.0)) in
+    let count : 0 < (timer_matches c.pulses-reach.new.matches k).count =
+    omega (arith, due.1, (brought (still_pulsed c)).timer_count k (enabled_of k c.self.inside.hpet due.0)) in
     let place : suc (suc k) ≡ k + 2 = omega arith in
     ap (λ (i : ℕ). (get_or c.self.inside.ticks i no_line).up) place
     ∙ c.if-finds_up.ensures.timers refl k (there c k count) count
@@ -544,7 +550,8 @@ pub returns-then-finds_up-clause-ran : goal.returns-then-finds_up-clause-ran
 returns-then-finds_up-clause-ran c = record {
   state = subst (leaves (still_pulsed c) _) c.self.view_is (still_state c);
   levels = λ j le.
-      ap (λ (d : DeviceParts). levels (run c.args.from j d).state) (sym c.self.view_is) ∙ levels-still (quiet c) refl j (omega (arith, le, c.requires.stretch.order))
+      ap (λ (d : DeviceParts). levels (run c.args.from j d).state) (sym c.self.view_is)
+      ∙ levels-still (quiet c) refl j (omega (arith, le, c.requires.stretch.order))
       ∙ ap levels c.self.view_is;
   due = λ k less. rw (← c.self.view_is)
       (due-few (known (still_pulsed c)) c.next_point-point.result c.args.to c.take_matches.new.lines (still_ends c) k less);

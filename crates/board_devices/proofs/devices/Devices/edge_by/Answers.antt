@@ -42,7 +42,8 @@ returns-then-are_timers_settled c =
     let settled : (k : ℕ) → k < c.self.inside.hpet.timers → is_settled k (parts_of c.self.inside) ≡ true =
     subst (λ (d : DeviceParts). (k : ℕ) → k < d.hpet.timers → is_settled k d ≡ true) (sym c.self.view_is)
     (c.are_timers_settled.ensures c.if-are_timers_settled.true) in
-    let front : c.front_up-front.result ≡ front_up (span_of b) (parts_of c.self.inside) = c.front_up-front.ensures ∙ ap (front_up (span_of b)) (sym c.self.view_is) in
+    let front : c.front_up-front.result ≡ front_up (span_of b) (parts_of c.self.inside) =
+    c.front_up-front.ensures ∙ ap (front_up (span_of b)) (sym c.self.view_is) in
     subst (λ (x : DeviceParts). IsEdgeBy c.args.now c.args.to x c.next_rise.result) c.self.view_is
     (edge-settled (parts_of c.self.inside) (span_of b) (ahead b) (sound b) (valid b) (first b) (point b) c.requires.order settled c.next_rise.result
     (subst (λ (us : List (Option ℕ)). IsNextRise us c.args.now c.args.to c.next_rise.result) front c.next_rise.ensures))
@@ -50,7 +51,8 @@ returns-then-are_timers_settled c =
 pub returns : goal.returns
 returns c =
     let b : After-are_timers_settled = (goal.at.returns c).After-are_timers_settled in
-    let times : c.lines_up-times.result ≡ lines_up (span_of b) (parts_of c.self.inside) = c.lines_up-times.ensures ∙ ap (lines_up (span_of b)) (sym c.self.view_is) in
+    let times : c.lines_up-times.result ≡ lines_up (span_of b) (parts_of c.self.inside) =
+    c.lines_up-times.ensures ∙ ap (lines_up (span_of b)) (sym c.self.view_is) in
     subst (λ (x : DeviceParts). IsEdgeBy c.args.now c.args.to x c.next_rise-2.result) c.self.view_is
     (next-is (parts_of c.self.inside) c.lines_up-times.result c.args.now c.args.to
     (λ j le. levels-ahead (parts_of c.self.inside) (span_of b) (ahead b) (sound b) (valid b) (first b) (point b) c.requires.order j le

@@ -34,14 +34,16 @@ neither true b e = absurd (true≢false e)
 
 pub returns : goal.returns
 returns c = λ e k less.
-    let two : (c.either.result ≡ false) × (c.is_slew-timers.result ≡ false) = neither c.either.result c.is_slew-timers.result (sym c.either-2.ensures ∙ e) in
-    let one : (c.is_slew-pit.result ≡ false) × (c.is_slew-rtc.result ≡ false) = neither c.is_slew-pit.result c.is_slew-rtc.result (sym c.either.ensures ∙ two.0) in
+    let timers = neither c.either.result c.is_slew-timers.result (sym c.either-2.ensures ∙ e) in
+    let front = neither c.is_slew-pit.result c.is_slew-rtc.result (sym c.either.ensures ∙ timers.0) in
     ap (λ (d : DeviceParts). is_waiting (line_at k d)) (sym c.self.view_is)
     ∙ none (parts_of c.self.inside) c.self.invariant
-    (sym (c.is_slew-pit.ensures ∙ ap is_slew c.policy.ensures ∙ ap (λ (l : TickParts). is_slew l.policy) (at 0 c.index-self-0.result (omega arith))) ∙ one.0)
-    (sym (c.is_slew-rtc.ensures ∙ ap is_slew c.policy-2.ensures ∙ ap (λ (l : TickParts). is_slew l.policy) (at 1 c.index-self-1.result (omega arith))) ∙ one.1)
-    (sym (c.is_slew-timers.ensures ∙ ap is_slew c.policy-3.ensures ∙ ap (λ (l : TickParts). is_slew l.policy) (at 2 c.index-self-2.result (omega arith))) ∙ two.1)
+    (slew_at 0 c.index-self-0.result (omega arith) (sym (c.is_slew-pit.ensures ∙ ap is_slew c.policy.ensures) ∙ front.0))
+    (slew_at 1 c.index-self-1.result (omega arith) (sym (c.is_slew-rtc.ensures ∙ ap is_slew c.policy-2.ensures) ∙ front.1))
+    (slew_at 2 c.index-self-2.result (omega arith) (sym (c.is_slew-timers.ensures ∙ ap is_slew c.policy-3.ensures) ∙ timers.1))
     k less
   where
-    at : (k : ℕ) (l : TickParts) → k < 10 → get_or c.self.inside.ticks k l ≡ line_at k (parts_of c.self.inside)
-    at k l less = get_or_default c.self.inside.ticks k l no_line (omega (arith, less, c.self.invariant.places))
+    slew_at : (k : ℕ) (l : TickParts) → k < 10 → is_slew (get_or c.self.inside.ticks k l).policy ≡ false
+        → is_slew (line_at k (parts_of c.self.inside)).policy ≡ false
+    slew_at k l less off = ap (λ (m : TickParts). is_slew m.policy)
+        (sym (get_or_default c.self.inside.ticks k l no_line (omega (arith, less, c.self.invariant.places)))) ∙ off

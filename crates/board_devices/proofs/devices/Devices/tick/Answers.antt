@@ -8,9 +8,10 @@ use Rattle.board_devices.specs.Places.{line_at, no_line}
 use Rattle.board_devices.specs.View.{parts_of}
 use Rattle.board_devices.specs.private.Pulses.{IsQuietBesidePit}
 use Rattle.board_devices.specs.private.Runs.{HasTicked}
-use Rattle.board_devices.proofs.Product.{Sound, same_parts}
+use Rattle.board_devices.proofs.Product.{same_parts}
 use Rattle.board_devices.proofs.QuietRuns.{AreLines}
 use Rattle.board_devices.proofs.TickRuns as runs
+use Rattle.board_devices.proofs.TickRuns.{IsTicking}
 use Rattle.board_devices.proofs.devices.Devices.tick.Goals as goal
 use Rattle.board_devices.proofs.devices.Devices.tick.Goals.{After-count_ticks}
 
@@ -21,27 +22,25 @@ count_ticks-requires-clause-room c =
     rw (← c.self.view_is) at (c.requires.stretch.room 0 (omega arith)) in
     omega (arith, room, c.pulses-rises.ensures.few, c.requires.pulses.few_pit)
 
-sound : (c : After-count_ticks) → Sound (parts_of c.self.inside)
-sound c = record {
-  rtc = rw c.parts-clock.ensures.value at c.parts-clock.ensures.valid;
-  joined = c.self.invariant;
+known : (c : After-count_ticks) → IsTicking (parts_of c.self.inside) c.args.from c.args.to c.args.pulses c.pulses-rises.result
+known c = record {
+  sound = record { rtc = rw c.parts-clock.ensures.value at c.parts-clock.ensures.valid; joined = c.self.invariant };
+  order = c.requires.stretch.order;
+  pulses = c.requires.pulses;
+  quiet = subst (IsQuietBesidePit c.args.from c.args.to c.args.pulses) (sym c.self.view_is) c.requires.quiet;
+  count = c.pulses-rises.ensures.count;
+  first = c.pulses-rises.ensures.first;
 }
 
-quiet : (c : After-count_ticks) → IsQuietBesidePit c.args.from c.args.to c.args.pulses (parts_of c.self.inside)
-quiet c = subst (IsQuietBesidePit c.args.from c.args.to c.args.pulses) (sym c.self.view_is) c.requires.quiet
-
 here : (c : After-count_ticks) → get_or c.count_ticks.new.lines 0 no_line
-    ≡ ticked_times (runs.ticks c.pulses-rises.result (sound c) c.requires.stretch.order c.requires.pulses (quiet c) c.pulses-rises.ensures.count c.pulses-rises.ensures.first)
-    (line_at 0 (parts_of c.self.inside))
+    ≡ ticked_times (runs.ticks (known c)) (line_at 0 (parts_of c.self.inside))
 here c = rw c.legacy-legacy.ensures at c.count_ticks.ensures.here
 
 lines : (c : After-count_ticks) → AreLines (parts_of c.self.inside) c.args.from (c.args.to - c.args.from) c.count_ticks.new.lines
-lines c = runs.lines-ticked c.pulses-rises.result (sound c) c.requires.stretch.order c.requires.pulses (quiet c) c.pulses-rises.ensures.count c.pulses-rises.ensures.first
-    c.count_ticks.new.lines c.count_ticks.ensures.places (here c) c.count_ticks.ensures.others
+lines c = runs.lines-ticked (known c) c.count_ticks.new.lines c.count_ticks.ensures.places (here c) c.count_ticks.ensures.others
 
 -- what the devices are then
-left : (c : After-count_ticks)
-    → runs.ticked_with c.pulses-rises.result (sound c) c.requires.stretch.order c.requires.pulses (quiet c) c.pulses-rises.ensures.count c.pulses-rises.ensures.first c.count_ticks.new.lines
+left : (c : After-count_ticks) → runs.ticked_with (known c) c.count_ticks.new.lines
     ≡ parts_of (record {
       pit = c.pulses-rises.new.self;
       rtc = c.pass.new.self;
@@ -54,15 +53,12 @@ left c = same_parts (parts_of c.self.inside) (sym c.pulses-rises.ensures.state) 
 pub invariant_of-self : goal.invariant_of-self
 invariant_of-self c =
     let at : After-count_ticks = (goal.at.invariant_of-self c).After-count_ticks in
-    subst IsDevices (left at)
-    (runs.ticked-joined c.pulses-rises.result (sound at) c.requires.stretch.order c.requires.pulses (quiet at) c.pulses-rises.ensures.count c.pulses-rises.ensures.first
-    c.count_ticks.new.lines (lines at))
+    subst IsDevices (left at) (runs.ticked-joined (known at) c.count_ticks.new.lines (lines at))
 
 pub returns : goal.returns
 returns c =
     let at : After-count_ticks = (goal.at.returns c).After-count_ticks in
-    let rise : c.rise_at.result
-    ≡ runs.rise c.pulses-rises.result (sound at) c.requires.stretch.order c.requires.pulses (quiet at) c.pulses-rises.ensures.count c.pulses-rises.ensures.first =
+    let rise : c.rise_at.result ≡ runs.rise (known at) =
     c.rise_at.ensures.value
     ∙ ap (λ (b : Bool). cond b None (first_at PIT_HZ c.args.from c.pulses-rises.result.first))
     (c.either-hidden.ensures ∙ ap (λ (b : Bool). b || c.legacy-legacy.result) c.up_at.ensures
@@ -76,6 +72,5 @@ returns c =
     })) c.rise_at.result) c.self.view_is
     (subst (λ (d : DeviceParts). HasTicked c.args.from c.args.to (parts_of c.self.inside) d c.rise_at.result) (left at)
     (subst (HasTicked c.args.from c.args.to (parts_of c.self.inside) _) (sym rise)
-    (runs.ticked c.pulses-rises.result (sound at) c.requires.stretch.order c.requires.pulses (quiet at) c.pulses-rises.ensures.count c.pulses-rises.ensures.first
-    c.count_ticks.new.lines (lines at) (here at) (omega (arith, c.pulses-rises.ensures.few, c.requires.pulses.few_pit))
+    (runs.ticked (known at) c.count_ticks.new.lines (lines at) (here at) (omega (arith, c.pulses-rises.ensures.few, c.requires.pulses.few_pit))
     (λ t e. c.rise_at.ensures.by_end t (rise ∙ e)))))

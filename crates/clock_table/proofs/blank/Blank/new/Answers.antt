@@ -10,4 +10,4 @@ of_words-requires c =
     let s = c.args.state.now in
     let ws = c.in_ok-words.words.items in
     subst (λ (l : List ℕ). Kept s (opening l [] (first_view s))) (sym c.deref.ensures.value)
-    (opens s ws (steady_of s c.cpus-cpus.ensures.joined c.processors-processors.ensures.places) c.in_ok-words.ensures)
+    (opens s ws (steady_of s c.joined.ensures c.processors-processors.ensures.places) c.in_ok-words.ensures)

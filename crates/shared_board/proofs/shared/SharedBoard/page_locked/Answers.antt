@@ -1,7 +1,11 @@
 use Rattle.shared_board.proofs.Tables.{locked_page}
 use Rattle.shared_board.proofs.shared.SharedBoard.page_locked.Goals as goal
 
-pub returns-in-Ok-clause-ok : goal.returns-in-Ok-clause-ok
-returns-in-Ok-clause-ok g c =
-    locked_page g.N.Name.state c.args.self.now.ratio c.args.h c.in-Ok.page c.args.pass.now c.table_locked.new.pass c.args.self.now.scaled c.args.cpu _
-    c.requires.cpu c.answer_by.ensures c.in-Ok.ensures.ok
+pub returns-in-Ok : goal.returns-in-Ok
+returns-in-Ok g c = record {
+  time = c.in-Ok.ensures.time;
+  ok =
+      locked_page g.N.Name.state c.args.self.now.ratio c.args.h c.in-Ok.page c.args.pass.now c.table_locked.new.pass c.args.self.now.scaled c.args.cpu _
+      c.requires.cpu c.answer_by.ensures c.in-Ok.ensures.ok;
+  err = tt;
+}

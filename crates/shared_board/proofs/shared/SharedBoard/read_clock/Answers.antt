@@ -6,6 +6,11 @@ clamp-requires g c = record {
   read = read_last g.N.Name.state c.args.cpu c.args.h _ c.in-Ok.read c.args.pass.now c.read_page.new.pass c.in-Ok.ensures.ok.read;
 }
 
-pub returns-in-Ok-clause-ok : goal.returns-in-Ok-clause-ok
-returns-in-Ok-clause-ok g c = read_clock_known g.N.Name.state c.args.cpu c.args.h c.in-Ok.read c.clamp.result c.args.pass.now c.read_page.new.pass
-    c.clamp.new.pass c.in-Ok.ensures.ok c.clamp.ensures
+pub returns-in-Ok : goal.returns-in-Ok
+returns-in-Ok g c = record {
+  time = c.in-Ok.ensures.time;
+  ok =
+      read_clock_known g.N.Name.state c.args.cpu c.args.h c.in-Ok.read c.clamp.result c.args.pass.now c.read_page.new.pass
+      c.clamp.new.pass c.in-Ok.ensures.ok c.clamp.ensures;
+  err = tt;
+}

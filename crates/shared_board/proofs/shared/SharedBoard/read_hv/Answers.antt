@@ -1,7 +1,11 @@
 use Rattle.shared_board.proofs.Tables.{read_hv}
 use Rattle.shared_board.proofs.shared.SharedBoard.read_hv.Goals as goal
 
-pub returns-in-Ok-clause-ok : goal.returns-in-Ok-clause-ok
-returns-in-Ok-clause-ok g c =
-    read_hv g.N.Name.state c.args.self.now.ratio c.args.h c.in-Ok.page c.args.pass.now c.read_table.new.pass c.args.self.now.scaled _ _ _
-    c.args.self.now.placed c.hv_answer_by.ensures c.of_page.ensures c.in-Ok.ensures.ok
+pub returns-in-Ok : goal.returns-in-Ok
+returns-in-Ok g c = record {
+  time = c.in-Ok.ensures.time;
+  ok =
+      read_hv g.N.Name.state c.args.self.now.ratio c.args.h c.in-Ok.page c.args.pass.now c.read_table.new.pass c.args.self.now.scaled _ _ _
+      c.args.self.now.placed c.hv_answer_by.ensures c.of_page.ensures c.in-Ok.ensures.ok;
+  err = tt;
+}

@@ -6,6 +6,11 @@ clamp-requires g c = record {
   read = read_last g.N.Name.state c.args.cpu c.args.h _ c.in-Ok.read c.args.pass.now c.try_page.new.pass c.in-Ok.ensures.ok.read;
 }
 
-pub returns-in-Ok-clause-ok : goal.returns-in-Ok-clause-ok
-returns-in-Ok-clause-ok g c = tried_clock g.N.Name.state c.args.cpu c.args.h c.in-Ok.read c.clamp.result c.args.pass.now c.try_page.new.pass c.clamp.new.pass
-    c.in-Ok.ensures.ok c.clamp.ensures
+pub returns-in-Ok : goal.returns-in-Ok
+returns-in-Ok g c = record {
+  time = c.in-Ok.ensures.time;
+  ok =
+      tried_clock g.N.Name.state c.args.cpu c.args.h c.in-Ok.read c.clamp.result c.args.pass.now c.try_page.new.pass c.clamp.new.pass
+      c.in-Ok.ensures.ok c.clamp.ensures;
+  err = tt;
+}

@@ -13,21 +13,19 @@ pub invariant_of-pass : goal.invariant_of-pass
 invariant_of-pass g c = try_rests c.try_table_on.result c.args.self.now.host.anchor g.N.Name.state.cpus g.N.Name.passes c.pass.inside.number
     c.args.index c.args.h c.pass.inside.seat c.try_table_on.new.seat c.pass.invariant.0 c.pass.invariant.1 c.try_table_on.ensures.ok c.try_table_on.ensures.err
 
-pub returns-clause-time : goal.returns-clause-time
-returns-clause-time g c = subst (λ (a : Anchor). OnOk c.try_table_on.result (HasTime a c.args.h)) c.args.self.now.clock c.try_table_on.ensures.time
-
-pub returns-clause-ok : goal.returns-clause-ok
-returns-clause-ok g c =
+pub returns : goal.returns
+returns g c =
     let n = c.pass.inside.number in
-    subst (λ (z : PassKnown). IfOk c.try_table_on.result (λ r. HasTriedTable g.N.Name.state c.args.index c.args.h r z (known n c.try_table_on.new.seat)))
-    c.pass.view_is
-    (try_answered c.try_table_on.result g.N.Name.state n c.args.index c.args.h c.pass.inside.seat c.try_table_on.new.seat
-    c.pass.invariant.0 c.try_table_on.ensures.ok)
-
-pub returns-clause-err : goal.returns-clause-err
-returns-clause-err g c =
-    let n = c.pass.inside.number in
-    subst (λ (z : PassKnown × Anchor). IfErr c.try_table_on.result (λ f. IsPageFault z.1 c.args.index c.args.h f z.0 (known n c.try_table_on.new.seat)))
-    (λ i. (c.pass.view_is i, c.args.self.now.clock i))
-    (try_faulted c.try_table_on.result c.args.self.now.host.anchor n c.args.index c.args.h c.pass.inside.seat c.try_table_on.new.seat c.pass.invariant.0
-    c.try_table_on.ensures.err)
+    record {
+      time = subst (λ (a : Anchor). OnOk c.try_table_on.result (HasTime a c.args.h)) c.args.self.now.clock c.try_table_on.ensures.time;
+      ok =
+          subst (λ (z : PassKnown). IfOk c.try_table_on.result (λ r. HasTriedTable g.N.Name.state c.args.index c.args.h r z (known n c.try_table_on.new.seat)))
+          c.pass.view_is
+          (try_answered c.try_table_on.result g.N.Name.state n c.args.index c.args.h c.pass.inside.seat c.try_table_on.new.seat
+          c.pass.invariant.0 c.try_table_on.ensures.ok);
+      err =
+          subst (λ (z : PassKnown × Anchor). IfErr c.try_table_on.result (λ f. IsPageFault z.1 c.args.index c.args.h f z.0 (known n c.try_table_on.new.seat)))
+          (λ i. (c.pass.view_is i, c.args.self.now.clock i))
+          (try_faulted c.try_table_on.result c.args.self.now.host.anchor n c.args.index c.args.h c.pass.inside.seat c.try_table_on.new.seat c.pass.invariant.0
+          c.try_table_on.ensures.err);
+    }

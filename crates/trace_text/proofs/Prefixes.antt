@@ -46,38 +46,38 @@ three (p ∷ q ∷ r ∷ s ∷ xs) a b c fit long A B C e =
     let er : r ≡ c = omega arith in
     λ i. ep i ∷ eq i ∷ er i ∷ s ∷ xs
 
-pub in_front : (xs : List ℕ) → AreBytes xs → 4 ≤ length xs → number_l 256 (take 4 xs) % 4294967296 % 16777216 ≡ 2125417 → xs ≡ codes "in " ++ drop 3 xs
-in_front xs fit long e = three xs 105 110 32 fit long (omega arith) (omega arith) (omega arith) e
+pub in_prefix : (xs : List ℕ) → AreBytes xs → 4 ≤ length xs → number_l 256 (take 4 xs) % 4294967296 % 16777216 ≡ 2125417 → xs ≡ codes "in " ++ drop 3 xs
+in_prefix xs fit long e = three xs 105 110 32 fit long (omega arith) (omega arith) (omega arith) e
 
-pub step_front : (xs : List ℕ) → AreBytes xs → 4 ≤ length xs → number_l 256 (take 4 xs) % 4294967296 ≡ 1885697139 → xs ≡ codes "step" ++ drop 4 xs
-step_front xs fit long e = four xs 115 116 101 112 fit long (omega arith) (omega arith) (omega arith) (omega arith) e
+pub step_prefix : (xs : List ℕ) → AreBytes xs → 4 ≤ length xs → number_l 256 (take 4 xs) % 4294967296 ≡ 1885697139 → xs ≡ codes "step" ++ drop 4 xs
+step_prefix xs fit long e = four xs 115 116 101 112 fit long (omega arith) (omega arith) (omega arith) (omega arith) e
 
-pub counter_front : (xs : List ℕ) → AreBytes xs → 4 ≤ length xs → number_l 256 (take 4 xs) % 4294967296 ≡ 1713402472 → xs ≡ codes "hr f" ++ drop 4 xs
-counter_front xs fit long e = four xs 104 114 32 102 fit long (omega arith) (omega arith) (omega arith) (omega arith) e
+pub counter_prefix : (xs : List ℕ) → AreBytes xs → 4 ≤ length xs → number_l 256 (take 4 xs) % 4294967296 ≡ 1713402472 → xs ≡ codes "hr f" ++ drop 4 xs
+counter_prefix xs fit long e = four xs 104 114 32 102 fit long (omega arith) (omega arith) (omega arith) (omega arith) e
 
-pub ack_front : (xs : List ℕ) → AreBytes xs → 4 ≤ length xs → number_l 256 (take 4 xs) % 4294967296 ≡ 543908705 → xs ≡ codes "ack " ++ drop 4 xs
-ack_front xs fit long e = four xs 97 99 107 32 fit long (omega arith) (omega arith) (omega arith) (omega arith) e
+pub ack_prefix : (xs : List ℕ) → AreBytes xs → 4 ≤ length xs → number_l 256 (take 4 xs) % 4294967296 ≡ 543908705 → xs ≡ codes "ack " ++ drop 4 xs
+ack_prefix xs fit long e = four xs 97 99 107 32 fit long (omega arith) (omega arith) (omega arith) (omega arith) e
 
-pub out_front : (xs : List ℕ) → AreBytes xs → 4 ≤ length xs → number_l 256 (take 4 xs) % 4294967296 ≡ 544503151 → xs ≡ codes "out " ++ drop 4 xs
-out_front xs fit long e = four xs 111 117 116 32 fit long (omega arith) (omega arith) (omega arith) (omega arith) e
+pub out_prefix : (xs : List ℕ) → AreBytes xs → 4 ≤ length xs → number_l 256 (take 4 xs) % 4294967296 ≡ 544503151 → xs ≡ codes "out " ++ drop 4 xs
+out_prefix xs fit long e = four xs 111 117 116 32 fit long (omega arith) (omega arith) (omega arith) (omega arith) e
 
-pub clock_front : (xs more : List ℕ) → AreBytes xs → 4 ≤ length xs → number_l 256 (take 4 xs) % 4294967296 ≡ 1668246627 → drop 4 xs ≡ codes "k " ++ more
+pub clock_prefix : (xs more : List ℕ) → AreBytes xs → 4 ≤ length xs → number_l 256 (take 4 xs) % 4294967296 ≡ 1668246627 → drop 4 xs ≡ codes "k " ++ more
     → xs ≡ codes "clock " ++ more
-clock_front xs more fit long e rest =
+clock_prefix xs more fit long e rest =
     four xs 99 108 111 99 fit long (omega arith) (omega arith) (omega arith) (omega arith) e
     ∙ ap (λ (l : List ℕ). 99 ∷ 108 ∷ 111 ∷ 99 ∷ l) rest
 
-pub refresh_front : (xs more : List ℕ) → AreBytes xs → 4 ≤ length xs → number_l 256 (take 4 xs) % 4294967296 ≡ 1919313266 → drop 4 xs ≡ codes "esh " ++ more
+pub refresh_prefix : (xs more : List ℕ) → AreBytes xs → 4 ≤ length xs → number_l 256 (take 4 xs) % 4294967296 ≡ 1919313266 → drop 4 xs ≡ codes "esh " ++ more
     → xs ≡ codes "refresh " ++ more
-refresh_front xs more fit long e rest =
+refresh_prefix xs more fit long e rest =
     four xs 114 101 102 114 fit long (omega arith) (omega arith) (omega arith) (omega arith) e
     ∙ ap (λ (l : List ℕ). 114 ∷ 101 ∷ 102 ∷ 114 ∷ l) rest
 
-pub hr_front : (xs : List ℕ) → AreBytes xs → 4 ≤ length xs → number_l 256 (take 4 xs) % 4294967296 % 16777216 ≡ 2126440 → xs ≡ codes "hr " ++ drop 3 xs
-hr_front xs fit long e = three xs 104 114 32 fit long (omega arith) (omega arith) (omega arith) e
+pub hr_prefix : (xs : List ℕ) → AreBytes xs → 4 ≤ length xs → number_l 256 (take 4 xs) % 4294967296 % 16777216 ≡ 2126440 → xs ≡ codes "hr " ++ drop 3 xs
+hr_prefix xs fit long e = three xs 104 114 32 fit long (omega arith) (omega arith) (omega arith) e
 
-pub hw_front : (xs : List ℕ) → AreBytes xs → 4 ≤ length xs → number_l 256 (take 4 xs) % 4294967296 % 16777216 ≡ 2127720 → xs ≡ codes "hw " ++ drop 3 xs
-hw_front xs fit long e = three xs 104 119 32 fit long (omega arith) (omega arith) (omega arith) e
+pub hw_prefix : (xs : List ℕ) → AreBytes xs → 4 ≤ length xs → number_l 256 (take 4 xs) % 4294967296 % 16777216 ≡ 2127720 → xs ≡ codes "hw " ++ drop 3 xs
+hw_prefix xs fit long e = three xs 104 119 32 fit long (omega arith) (omega arith) (omega arith) e
 
 -- the same, as a slice is written
 pub sliced : (n : ℕ) (name xs : List ℕ) → n ≤ length xs → xs ≡ name ++ drop n xs → xs ≡ name ++ take (length xs - n) (drop n xs)

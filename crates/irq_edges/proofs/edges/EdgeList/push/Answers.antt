@@ -1,9 +1,0 @@
-use Rattle.std.proofs.Common.{◌<◌, length, ap, arith}
-use Rattle.irq_edges.specs.private.Places.{no_edge}
-use Rattle.irq_edges.proofs.Places.{pushed}
-use Rattle.irq_edges.proofs.edges.EdgeList.push.Goals as goal
-
-pub invariant_of-self : goal.invariant_of-self
-invariant_of-self c =
-    let free : c.self.inside.len < 24 = omega (arith, c.requires, ap length c.self.view_is, c.self.invariant.count) in
-    pushed 24 no_edge c.self.inside.places c.self.inside.len c.args.edge c.self.invariant free
