@@ -66,7 +66,7 @@ static void one_rise(struct clockboard *board) {
     print_edges(&reply);
     expect(reply.edge_count == 1 && reply.edges[0].at_ns == 4191 && reply.edges[0].line == 0 && reply.edges[0].up == 1, "rise");
     clockboard_port_read(board, 0, 5000, 0x40, &reply);
-    expect(reply.value[0] == 4, "low byte");
+    expect(reply.number == 5 && reply.now_ns == 5000 && reply.value[0] == 4, "low byte");
     clockboard_port_read(board, 0, 5000, 0x40, &reply);
     expect(reply.value[0] == 0, "high byte");
     printf("%" PRIu64 " accesses, %" PRIu64 " ns\n", reply.number, reply.now_ns);

@@ -144,7 +144,7 @@ class Tree(unittest.TestCase):
 
         first = code()
         put(self.top / "crates/clockboard/proofs/Lib.antt", "mod Rows\n")
-        put(self.top / "crates/clockboard/src/tests.rt", "one\n")
+        put(self.top / "crates/runner_tests/src/lib.rt", "one\n")
         self.assertEqual(code(), first)
         self.edit("two")
         self.assertNotEqual(code(), first)
@@ -152,7 +152,7 @@ class Tree(unittest.TestCase):
     def test_comments_in_proofs_and_tests(self) -> None:
         self.release()
         put(self.top / "crates/clockboard/proofs/Rows.antt", "-- a comment\n")
-        put(self.top / "crates/clockboard/src/tests.rt", "// a comment\n")
+        put(self.top / "crates/runner_tests/src/lib.rt", "// a comment\n")
         self.assertEqual(self.run_it(path=self.path_with_rt()), (0, "released\n", ""))
 
     def test_kept_sum(self) -> None:

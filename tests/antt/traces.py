@@ -3,10 +3,10 @@
 
 from .compute import Definitions, Fields
 
-REPLAY = ("trace_runner.specs.Replay", "replay")
+REPLAY = ("trace_replay.specs.Replay", "replay")
 CHECK = ("trace_runner.specs.Check", "check")
 SAYING = ("trace_runner.specs.Sayings", "saying_of")
-STATUS = "trace_runner.specs.Status"
+STATUS = "trace_replay.specs.Status"
 # What a race asks for a record of these words; of any other an access.
 CALLS = {"page": "ReadPage", "clock": "ReadClock", "hv": "ReadHv"}
 # Commands that read no trace: their words, and what these ask for.

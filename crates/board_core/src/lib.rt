@@ -42,6 +42,3 @@ pub use lag::{Lag, NO_LAG, is_passive};
 pub use lazy::LazyBoard;
 pub use processors::published_by;
 pub use refusals::{publishes_wall, spent_accesses, spent_version};
-
-#[cfg(test)]
-mod tests;

@@ -34,6 +34,3 @@ mod stretch;
 pub use act::Act;
 pub use devices::Devices;
 pub use parts::DeviceParts;
-
-#[cfg(test)]
-mod tests;

@@ -17,8 +17,6 @@
 mod answer;
 mod entry;
 mod table;
-#[cfg(test)]
-mod tests;
 
 pub use answer::{answer_by, hv_answer_by};
 pub use entry::{Entry, opened};

@@ -1,4 +1,4 @@
-ghost use Rattle.std.specs.Prelude.{◌≡◌, ◌≤◌, IfOk};
+ghost use Rattle.std.specs.Prelude.{◌≡◌, ◌≤◌};
 ghost use Rattle.board_io.specs.Ends.{input_of, output_of};
 ghost use Rattle.board_io.specs.Faults.{most_given};
 
@@ -31,6 +31,13 @@ impl<T: Read + Drop> ReadSource<T> {
             late: false,
             faults: 0,
         }
+    }
+
+    /// How many of its calls have failed; the count stays at its type's greatest value.
+    pub fn faults(&self) -> u64
+        ensures { result ≡ (⟦<ReadSource<T> as Source>⟧.input self.now).faults }
+    {
+        self.faults
     }
 }
 
@@ -82,6 +89,13 @@ impl<T: Write + Drop> WriteSink<T> {
             faults: 0,
         }
     }
+
+    /// How many of its calls have failed; the count stays at its type's greatest value.
+    pub fn faults(&self) -> u64
+        ensures { result ≡ (⟦<WriteSink<T> as Sink>⟧.output self.now).faults }
+    {
+        self.faults
+    }
 }
 
 impl<T: Write + Drop> Sink for WriteSink<T> {
@@ -102,92 +116,5 @@ impl<T: Write + Drop> Sink for WriteSink<T> {
                 Err(Failed)
             }
         }
-    }
-}
-
-#[cfg(test)]
-mod tests {
-    use super::*;
-    use std::io::{Error, ErrorKind, Result};
-
-    /// A device that fails at its first call, and reads ones and takes all from then on.
-    #[derive(Drop)]
-    struct Flaky {
-        is_well: bool,
-    }
-
-    impl Flaky {
-        fn call(&mut self, length: usize) -> Result<usize>
-            ensures { IfOk result (λ n. n ≡ length) }
-        {
-            if self.is_well {
-                return Ok(length);
-            }
-            self.is_well = true;
-            Err(Error::from(ErrorKind::BrokenPipe))
-        }
-    }
-
-    impl Read for Flaky {
-        fn read(&mut self, buf: &mut [u8]) -> Result<usize> {
-            buf.fill(1);
-            self.call(buf.len())
-        }
-    }
-
-    impl Write for Flaky {
-        fn write(&mut self, buf: &[u8]) -> Result<usize> {
-            self.call(buf.len())
-        }
-
-        fn flush(&mut self) -> Result<()> {
-            Ok(())
-        }
-    }
-
-    #[test]
-    fn a_reader_is_a_source(rt: HostRuntime) {
-        let text: &[u8] = b"abcde";
-        let mut source = ReadSource::new(text);
-        let mut piece = [b'.'; 4];
-        assert_eq!(rt; source.take(&mut piece), Ok(4));
-        assert_eq!(rt; piece, *b"abcd");
-        assert_eq!(rt; source.take(&mut piece), Ok(1));
-        assert_eq!(rt; piece, *b"ebcd");
-        assert_eq!(rt; source.take(&mut piece), Ok(0));
-    }
-
-    #[test]
-    fn a_page_is_read_at_once(rt: HostRuntime) {
-        let mut text = [2; 5000];
-        text[4095] = 3;
-        let mut source = ReadSource::new(text.as_slice());
-        let mut piece = [0; 4096];
-        assert_eq!(rt; source.take(&mut piece), Ok(4096));
-        assert_eq!(rt; (piece[0], piece[4095]), (2, 3));
-        assert_eq!(rt; source.take(&mut piece), Ok(904));
-        assert_eq!(rt; source.take(&mut piece), Ok(0));
-    }
-
-    #[test]
-    fn a_writer_is_a_sink(rt: HostRuntime) {
-        let mut sink = WriteSink::new(Vec::new(rt.alloc()));
-        assert_eq!(rt; sink.put(b"abc"), Ok(3));
-        assert_eq!(rt; sink.put(b"de"), Ok(2));
-        assert!(rt; sink.writer.as_slice() == b"abcde".as_slice());
-    }
-
-    #[test]
-    fn goes_on_after_a_fault(rt: HostRuntime) {
-        let mut piece = [0; 4096];
-        let mut source = ReadSource::new(Flaky { is_well: false });
-        assert_eq!(rt; source.take(&mut piece), Err(Failed));
-        assert_eq!(rt; source.take(&mut piece), Ok(4096));
-        assert_eq!(rt; piece[4095], 1);
-        assert_eq!(rt; source.faults, 1);
-        let mut sink = WriteSink::new(Flaky { is_well: false });
-        assert_eq!(rt; sink.put(&piece), Err(Failed));
-        assert_eq!(rt; sink.put(&piece), Ok(4096));
-        assert_eq!(rt; sink.faults, 1);
     }
 }

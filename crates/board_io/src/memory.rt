@@ -192,33 +192,3 @@ impl Sink for MemSink {
         Err(Failed)
     }
 }
-
-#[cfg(test)]
-mod tests {
-    use super::*;
-    use std::test::Fail;
-
-    #[test]
-    fn gives_its_bytes_in_pieces_and_fails_when_told(rt: HostRuntime) -> Result<(), Fail> {
-        let bytes = b"abcde".to_vec(rt.alloc())?;
-        let mut source = MemSource::new(bytes, vec![in rt.alloc(); 2]?, 3);
-        let mut piece = [b'.'; 4];
-        assert_eq!(rt; source.take(&mut piece), Ok(3));
-        assert_eq!(rt; piece, *b"abc.");
-        assert_eq!(rt; source.take(&mut piece), Err(Failed));
-        assert_eq!(rt; source.take(&mut piece), Ok(2));
-        assert_eq!(rt; piece, *b"dec.");
-        assert_eq!(rt; source.take(&mut piece), Ok(0));
-        Ok(())
-    }
-
-    #[test]
-    fn holds_what_it_took(rt: HostRuntime) -> Result<(), Fail> {
-        let mut sink = MemSink::new(rt.alloc(), vec![in rt.alloc(); 2]?, 2);
-        assert_eq!(rt; sink.put(b"abc"), Ok(2));
-        assert_eq!(rt; sink.put(b"c"), Err(Failed));
-        assert_eq!(rt; sink.put(b"c"), Ok(1));
-        assert!(rt; sink.bytes() == b"abc".as_slice());
-        Ok(())
-    }
-}

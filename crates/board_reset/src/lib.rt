@@ -15,6 +15,3 @@
 mod resets;
 
 pub use resets::reset;
-
-#[cfg(test)]
-mod tests;

@@ -27,6 +27,3 @@ pub use setup::{
     APIC_FORMAT, HV_FORMAT, LAST_FORMAT, MESSAGE_FORMAT, SECOND_NS, SLEW_MAX_NS, Setup,
     has_messages, processors_of, timers_of,
 };
-
-#[cfg(test)]
-mod tests;

@@ -14,8 +14,6 @@
 
 mod appending;
 mod numbers;
-#[cfg(test)]
-mod tests;
 
 pub use appending::{flag_byte, flags_byte, put, put_2, put_4, put_8};
 pub use numbers::{byte_at, eight_at, flag_at, flag_valid, four_at, two_at};

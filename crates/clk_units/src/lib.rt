@@ -18,8 +18,6 @@ ghost use Rattle.clk_units.specs.Events.{first_at};
 
 mod bits;
 mod ranges;
-#[cfg(test)]
-mod tests;
 
 pub use bits::{bit, bit_value};
 pub use ranges::{KHZ_MAX, KHZ_MIN, RANGE_NS, is_khz};

@@ -60,6 +60,3 @@ pub use states::{
 pub use timer::{
     clockboard_counter_of, clockboard_next_edge, clockboard_next_message, clockboard_next_tick,
 };
-
-#[cfg(test)]
-mod tests;

@@ -17,6 +17,3 @@ mod parse;
 
 pub use command::{Command, Page, Size};
 pub use parse::command_of;
-
-#[cfg(test)]
-mod tests;

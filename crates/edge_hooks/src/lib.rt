@@ -22,6 +22,3 @@ pub use deliveries::{Delivery, DeliveryList};
 pub use hooks::Hooks;
 pub use messages::{Message, MessageHooks};
 pub use sent::{Sent, SentList};
-
-#[cfg(test)]
-mod tests;

@@ -17,9 +17,6 @@ ghost use Rattle.clk_units.specs.Ranges.{IsKhz};
 
 use clk_units::RANGE_NS;
 
-#[cfg(test)]
-mod tests;
-
 /// Nanoseconds in a millisecond, of which a counter of 1 kHz counts one.
 const MILLISECOND_NS: u64 = 1_000_000;
 

@@ -24,6 +24,3 @@ mod run;
 
 pub use next::next_message;
 pub use run::bursts_in;
-
-#[cfg(test)]
-mod tests;

@@ -27,6 +27,3 @@ pub use part::write_part;
 pub use parts::{TimerField, TimerParts, is_comparator_valid, is_config_valid, is_period_valid};
 pub use stretch::Matches;
 pub use timer::Timer;
-
-#[cfg(test)]
-mod tests;

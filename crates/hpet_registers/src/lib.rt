@@ -25,6 +25,3 @@ mod stretch;
 pub use hpet::{HPET_HZ, Hpet};
 pub use parts::{HpetField, HpetParts};
 pub use register::Register;
-
-#[cfg(test)]
-mod tests;

@@ -27,6 +27,3 @@ pub use page::{HvPage, HvReply, published, withdrawn};
 pub use scale::scale_of;
 pub use time::{reading, reply};
 pub use words::{as_page, of_page};
-
-#[cfg(test)]
-mod tests;

@@ -1,5 +1,5 @@
 -- The six lines, and the edges between two lists of their levels.
-use Rattle.std.specs.Prelude.{ℕ, Bool, true, false, ◌==◌, ◌||◌, IsTrue, if◌then◌else◌}
+use Rattle.std.specs.Prelude.{ℕ, Bool, true, false, ◌-◌, ◌==◌, ◌||◌, IsTrue, if◌then◌else◌}
 use Rattle.std.specs.Prelude.{List, [], ◌∷◌, ◌++◌}
 use Rattle.irq_edges.specs.declared.edges.Edge.{Edge}
 
@@ -21,6 +21,10 @@ changes at _ _ _ = []
 -- whether a number is that of a line
 abbrev pub is_line : ℕ → Bool
 is_line n = n == 0 || n == 8 || n == 20 || n == 21 || n == 22 || n == 23
+
+-- the place of a line among the six, by its number
+abbrev pub place_of_line : ℕ → ℕ
+place_of_line line = if line == 0 then 0 else if line == 8 then 1 else line - 18
 
 -- an edge is of one of the six lines
 abbrev pub IsOfLine : Edge → Type 0

@@ -30,6 +30,3 @@ pub use edges::{EDGE_PLACES, Edge, EdgeList};
 pub use lines::{LINE_NUMBERS, Lines, changes, is_line};
 pub use rises::{emit, lines_at, next_rise};
 pub use short_list::ShortList;
-
-#[cfg(test)]
-mod tests;

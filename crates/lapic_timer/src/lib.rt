@@ -25,6 +25,3 @@ pub use parts::{ApicField, ApicParts};
 pub use registers::ApicRegister;
 pub use stretch::Fires;
 pub use timer::ApicTimer;
-
-#[cfg(test)]
-mod tests;

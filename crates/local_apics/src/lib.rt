@@ -23,6 +23,3 @@ mod still;
 pub use apics::LocalApics;
 pub use parts::ApicsParts;
 pub use span::TscClock;
-
-#[cfg(test)]
-mod tests;

@@ -35,6 +35,4 @@ pub use parts::{
     latched_status_valid, part_valid, read_order_valid,
 };
 pub use rises::Rises;
-
-#[cfg(test)]
-mod tests;
+pub use table::pulsed;

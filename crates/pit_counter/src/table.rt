@@ -2,7 +2,7 @@
 
 ghost use Rattle.std.specs.Prelude.{◌≡◌, ◌&&◌, ◌||◌, not};
 ghost use Rattle.pit_counter.specs.Mode.{mode_of};
-ghost use Rattle.pit_counter.specs.Table.{effect_in, affected, has_risen};
+ghost use Rattle.pit_counter.specs.Table.{effect_in, affected, has_risen, pulsed};
 
 use crate::count::{is_odd_square, loaded_count, lowered};
 use crate::mode::{Mode, mode_of};
@@ -211,6 +211,15 @@ pub fn next_effect(p: &CounterParts) -> Effect
     ensures { result ≡ effect_in (mode_of p.now.bits) p.now }
 {
     effect_in(mode_of(p.bits), p)
+}
+
+/// The fields after one CLK pulse, by the mode table (Intel 8254 data sheet, "Mode Definitions"). It is the plain form of
+/// `Counter::pulses`, pulse by pulse, for whoever compares with it.
+#[tactic(auto, unfolding(crate::specs::Table::pulsed))]
+pub fn pulsed(parts: CounterParts) -> CounterParts
+    ensures { result ≡ pulsed parts }
+{
+    affected(next_effect(&parts), parts)
 }
 
 /// OUT is low before and high after.

@@ -28,6 +28,3 @@ pub use ports::{CONTROL_PORT, COUNTER_PORT, SYSTEM_PORT, is_pit_port};
 
 /// Pulses a second of CLK: 1,193,182 Hz, a twelfth of the PC's 14.31818 MHz.
 pub const PIT_HZ: u64 = 1_193_182;
-
-#[cfg(test)]
-mod tests;

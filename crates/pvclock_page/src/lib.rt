@@ -18,8 +18,6 @@ mod guest;
 mod page;
 mod publish;
 mod scale;
-#[cfg(test)]
-mod tests;
 mod time;
 mod words;
 

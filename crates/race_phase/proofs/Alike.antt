@@ -33,7 +33,7 @@ use Rattle.std.proofs.Common.{
 use Rattle.std.proofs.lemmas.Bool.{cases_lt, lt-ltb, le-ltb}
 use Rattle.std.proofs.lemmas.List.{get_or_past, length-map}
 use native.Mathlib.Decide.{dec_le}
-use Rattle.race_phase.specs.declared.deliveries.Deliveries.{Deliveries}
+use Rattle.trace_blocks.specs.declared.deliveries.Deliveries.{Deliveries}
 use Rattle.board_types.specs.declared.access.Access.{Access}
 use Rattle.board_types.specs.declared.parts.BoardParts.{BoardParts}
 use Rattle.board_types.specs.declared.parts.ProcessorParts.{ProcessorParts}
@@ -46,9 +46,9 @@ use Rattle.board_history.specs.declared.entry.Entry.{Entry}
 use Rattle.board_history.specs.declared.entry.Entry.TheVariants.{Opened, Board, PageRead, HvRead, Clamp}
 use Rattle.board_history.proofs.Laws.{board_after-snoc, machine-stays}
 use Rattle.board_history.proofs.Pages.{machine_of-access, length-processors}
-use Rattle.trace_text.specs.declared.records.Call.{Call}
-use Rattle.trace_text.specs.declared.records.Call.TheVariants.{Act}
-use Rattle.race_phase.specs.declared.records.Record.{Record}
+use Rattle.trace_records.specs.declared.Call.{Call}
+use Rattle.trace_records.specs.declared.Call.TheVariants.{Act}
+use Rattle.trace_blocks.specs.declared.records.Record.{Record}
 use Rattle.race_phase.specs.Calls.{IsFitting, records_of, Shown}
 use Rattle.race_phase.specs.Order.{after_call, after_record, after_records}
 use Rattle.race_phase.specs.private.Ran.{AreAlike, PhaseTold}

@@ -17,10 +17,10 @@ use Rattle.shared_board.specs.Passes.{miss, IsUpdate, Answered, Tried}
 use Rattle.shared_board.specs.Hv.{HasReadHv}
 use Rattle.shared_board.specs.Pages.{clock_entries, IsClockOf, HasReadPage, HasReadClock}
 use Rattle.shared_board.proofs.Made.{made_of}
-use Rattle.race_phase.specs.declared.records.Answer.TheVariants.{Acted, PageIs, ClockIs, HvIs}
-use Rattle.trace_text.specs.declared.records.Call.{Call}
-use Rattle.trace_text.specs.declared.records.Call.TheVariants.{Act, ReadPage, ReadClock, ReadHv}
-use Rattle.race_phase.specs.declared.records.Record.{Record}
+use Rattle.trace_blocks.specs.declared.records.Answer.TheVariants.{Acted, PageIs, ClockIs, HvIs}
+use Rattle.trace_records.specs.declared.Call.{Call}
+use Rattle.trace_records.specs.declared.Call.TheVariants.{Act, ReadPage, ReadClock, ReadHv}
+use Rattle.trace_blocks.specs.declared.records.Record.{Record}
 use Rattle.race_phase.specs.Calls.{CallMade}
 use Rattle.race_phase.specs.private.Workers.{AllTried, IsMade}
 use Rattle.std.proofs.lemmas.List.Elements.{All-nil, All-cons}

@@ -2,8 +2,8 @@
 use Rattle.std.proofs.Common.{◌≡◌, List, [], ◌∷◌, ◌++◌, Option, None, refl, ap, ◌∙◌}
 use Rattle.std.specs.Option.{option_or}
 use Rattle.board_types.specs.declared.parts.BoardParts.{BoardParts}
-use Rattle.race_phase.specs.declared.faults.Fault.{Fault}
-use Rattle.race_phase.specs.declared.records.Record.{Record}
+use Rattle.trace_blocks.specs.declared.faults.Fault.{Fault}
+use Rattle.trace_blocks.specs.declared.records.Record.{Record}
 use Rattle.race_phase.specs.Order.{record_fault, after_record, after_records, records_fault}
 use Rattle.race_phase.proofs.Taken.{or_none}
 

@@ -62,9 +62,9 @@ use Rattle.board_history.specs.declared.entry.Entry.TheVariants.{Opened, Board, 
 use Rattle.board_history.proofs.Laws.{board_after-snoc}
 use Rattle.board_history.proofs.Pages.{length-processors, processor_at-none, publishes_wall-page}
 use Rattle.shared_board.specs.Faults.{page_reads}
-use Rattle.trace_text.specs.declared.records.Call.{Call}
-use Rattle.trace_text.specs.declared.records.Call.TheVariants.{Act}
-use Rattle.race_phase.specs.declared.records.Record.{Record}
+use Rattle.trace_records.specs.declared.Call.{Call}
+use Rattle.trace_records.specs.declared.Call.TheVariants.{Act}
+use Rattle.trace_blocks.specs.declared.records.Record.{Record}
 
 -- the weights of a list, added up
 abbrev pub weigh : {A : Type 0} → (A → ℕ) → List A → ℕ

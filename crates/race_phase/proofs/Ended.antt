@@ -1,8 +1,8 @@
 -- A phase with what ends it.
 use Rattle.std.proofs.Common.{◌≡◌, ℕ, ◌<◌, List, [], ◌∷◌, ◌++◌, refl, sym, ap, ◌∙◌, subst, append-nil, Option, Some, None, option_map}
 use Rattle.std.specs.Option.{option_or}
-use Rattle.race_phase.specs.declared.faults.Cause.TheVariants.{Access as ByAccess, Move as ByMove}
-use Rattle.race_phase.specs.declared.deliveries.Deliveries.{Deliveries}
+use Rattle.trace_blocks.specs.declared.faults.Cause.TheVariants.{Access as ByAccess, Move as ByMove}
+use Rattle.trace_blocks.specs.declared.deliveries.Deliveries.{Deliveries}
 use Rattle.board_types.specs.declared.access.Access.TheVariants.{Step}
 use Rattle.board_types.specs.declared.parts.BoardParts.{BoardParts}
 use Rattle.board_core.specs.Access.{after_access, reply_of}
@@ -11,12 +11,13 @@ use Rattle.board_history.specs.History.{board_after, May, LegalFrom, IsLegal, Op
 use Rattle.board_history.specs.declared.entry.Entry.{Entry}
 use Rattle.board_history.proofs.Laws.{LegalFrom-snoc}
 use Rattle.transfer.specs.Move.{move_fault}
-use Rattle.race_phase.specs.declared.faults.Cause.{Cause}
-use Rattle.race_phase.specs.declared.phases.End.{End}
-use Rattle.race_phase.specs.declared.phases.End.TheVariants.{Finish, Save, Move}
+use Rattle.trace_blocks.specs.declared.faults.Cause.{Cause}
+use Rattle.trace_blocks.specs.declared.ends.End.{End}
+use Rattle.trace_blocks.specs.declared.ends.End.TheVariants.{Finish, Save, Move}
 use Rattle.race_phase.specs.declared.phases.Phase.{Phase}
 use Rattle.race_phase.specs.private.Ran.{PhaseTold}
-use Rattle.race_phase.specs.Phases.{IsEnd, end_fault, end_entries, end_text, next_board, PhaseEnded}
+use Rattle.race_phase.specs.Phases.{end_entries, PhaseEnded}
+use Rattle.trace_blocks.specs.Ends.{IsEnd, end_fault, end_text, next_board}
 use Rattle.race_phase.proofs.Taken.{line_none, access_none}
 use Rattle.board_history.specs.declared.entry.Entry.TheVariants.{Opened, Board}
 

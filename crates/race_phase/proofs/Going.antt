@@ -2,14 +2,15 @@
 use Rattle.std.proofs.Common.{◌≡◌, ℕ, List, [], ◌∷◌, ◌++◌, refl, sym, ap, ◌∙◌, subst, append_assoc, append-nil, All, None}
 use Rattle.std.proofs.lemmas.List.Elements.{All-nil, All-cons}
 use Rattle.board_types.specs.declared.parts.BoardParts.{BoardParts}
-use Rattle.race_phase.specs.declared.deliveries.Deliveries.{Deliveries}
-use Rattle.race_phase.specs.declared.phases.End.{End}
+use Rattle.trace_blocks.specs.declared.deliveries.Deliveries.{Deliveries}
+use Rattle.trace_blocks.specs.declared.ends.End.{End}
 use Rattle.race_phase.specs.declared.phases.Phase.{Phase}
 use Rattle.race_phase.specs.declared.piece.Part.{Part}
-use Rattle.race_phase.specs.declared.records.Record.{Record}
+use Rattle.trace_blocks.specs.declared.records.Record.{Record}
 use Rattle.race_phase.specs.Parts.{phases_in, open_in}
 use Rattle.race_phase.specs.Order.{after_records, records_fault}
-use Rattle.race_phase.specs.Phases.{IsEnd, IsPhase, after_phase, end_fault, end_text, next_board, phase_fault, race_text, trace_fault}
+use Rattle.race_phase.specs.Phases.{IsPhase, after_phase, phase_fault, race_text, trace_fault}
+use Rattle.trace_blocks.specs.Ends.{IsEnd, end_fault, end_text, next_board}
 use Rattle.race_phase.specs.private.Feed.{PhaseHasEnded, PhaseRun}
 use Rattle.race_phase.specs.private.Ran.{AreAlike}
 use Rattle.race_phase.proofs.Ended.{phase_ended}

@@ -5,7 +5,6 @@ pub mod Counts
 pub mod Ended
 pub mod Gathered
 pub mod Going
-mod Messages
 mod Moves
 pub mod Parts
 pub mod Pieces

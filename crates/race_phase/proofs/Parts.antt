@@ -3,13 +3,13 @@ use Rattle.std.proofs.Common.{◌≡◌, ◌++◌, ◌∷◌, [], ◌≤◌, ◌
 use Rattle.std.specs.Prelude.{IfSome}
 use Rattle.std.proofs.lemmas.List.Elements.{All-append}
 use Rattle.board_types.specs.declared.parts.BoardParts.{BoardParts}
-use Rattle.race_phase.specs.declared.phases.End.{End}
+use Rattle.trace_blocks.specs.declared.ends.End.{End}
 use Rattle.race_phase.specs.declared.phases.Phase.{Phase}
 use Rattle.race_phase.specs.declared.piece.Part.{Part}
-use Rattle.race_phase.specs.declared.records.Record.{Record}
+use Rattle.trace_blocks.specs.declared.records.Record.{Record}
 use Rattle.race_phase.specs.Calls.{IsFitting}
 use Rattle.race_phase.specs.Parts.{IsPart, phase_by, left_open, phases_in, open_in}
-use Rattle.race_phase.specs.Phases.{IsEnd}
+use Rattle.trace_blocks.specs.Ends.{IsEnd}
 use Rattle.race_phase.specs.private.Feed.{ArePhase}
 
 pub phases_in-append : (rs : List Record) (ps qs : List Part) → phases_in rs (ps ++ qs) ≡ phases_in rs ps ++ phases_in (open_in rs ps) qs

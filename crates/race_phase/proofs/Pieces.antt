@@ -12,7 +12,6 @@ use Rattle.std.proofs.Common.{
   ◌∷◌,
   ◌++◌,
   length,
-  take,
   get_or,
   set,
   sym,
@@ -30,13 +29,6 @@ use Rattle.std.proofs.Common.{
   if◌then◌else◌,
 }
 use Rattle.std.specs.List.{flat_map}
-use Rattle.std.proofs.lemmas.List.{flat_map_more, take_more}
-
--- the pieces up to the next one
-pub flat_map-take : {X A : Type 0} (f : X → List A) (old : List A) (xs : List X) (i : ℕ) (d : X) → i < length xs
-    → (old ++ flat_map f (take i xs)) ++ f (get_or xs i d) ≡ old ++ flat_map f (take (i + 1) xs)
-flat_map-take f old xs i d inside =
-    flat_map_more f old (take i xs) (get_or xs i d) ∙ ap (λ ys. old ++ flat_map f ys) (sym (take_more xs i d inside))
 
 -- what is put onto the last piece comes after them all
 flat_map-set : {X A : Type 0} (f : X → List A) (xs : List X) (i : ℕ) (x d : X) (more : List A) → i + 1 ≡ length xs → f x ≡ f (get_or xs i d) ++ more

@@ -1,38 +1,34 @@
 -- Small rows that pin the definitions: what a record and the end of a phase print, and which entries
 -- answer the calls of a processor.
-use Rattle.std.proofs.Common.{◌≡◌, ℕ, List, [], ◌∷◌, true, false, Bool, Some, map, pos, refl}
+use Rattle.std.proofs.Common.{◌≡◌, ℕ, List, [], ◌∷◌, true, false, Bool, map, refl}
 use Rattle.std.specs.Prelude.{codes}
 use Rattle.std.specs.Fmt.{digits}
 use Rattle.tsc_scale.specs.Offset.{tsc_by}
 use Rattle.tick_policy.specs.declared.parts.Policy.TheVariants.{Delay}
 use Rattle.pvclock_page.specs.Reading.{reading_of}
 use Rattle.pvclock_page.specs.declared.page.Page.{Page}
-use Rattle.pvclock_page.specs.declared.page.PageReply.TheVariants.{Off as PageOff, On as PageOn}
+use Rattle.pvclock_page.specs.declared.page.PageReply.TheVariants.{Off as PageOff}
 use Rattle.pvclock_page.specs.declared.page.ClockReply.TheVariants.{Off, On}
-use Rattle.hv_page.specs.declared.page.HvReply.TheVariants.{Off as HvOff}
 use Rattle.board_types.specs.declared.access.Access.TheVariants.{MsrWrite, Step}
 use Rattle.board_types.specs.declared.parts.BoardParts.{BoardParts}
 use Rattle.board_types.specs.declared.reply.Reply.{Reply}
-use Rattle.board_types.specs.declared.reply.Value.TheVariants.{Nothing, Byte}
-use Rattle.board_core.specs.Access.{after_access, reply_of}
+use Rattle.board_types.specs.declared.reply.Value.TheVariants.{Nothing}
+use Rattle.board_core.specs.Access.{reply_of}
 use Rattle.board_core.specs.PowerOn.{board_at_power_on}
 use Rattle.board_core.specs.Pages.{answer_by}
 use Rattle.board_history.specs.Machine.{ratio_in}
 use Rattle.board_history.specs.History.{entries_of}
 use Rattle.board_history.specs.declared.entry.Entry.{Entry}
 use Rattle.board_history.specs.declared.entry.Entry.TheVariants.{Opened, Board, PageRead, Clamp}
-use Rattle.reply_text.specs.Words.{hex_text}
-use Rattle.reply_text.specs.Text.{edge_text, msg_text, value_text, page_text, clock_text, hv_text}
-use Rattle.transfer.specs.Move.{moved_to}
-use Rattle.race_phase.specs.declared.deliveries.Deliveries.{Deliveries}
-use Rattle.race_phase.specs.declared.phases.End.{End}
-use Rattle.race_phase.specs.declared.phases.End.TheVariants.{Finish, Save, Move}
-use Rattle.race_phase.specs.declared.records.Answer.TheVariants.{Acted, PageIs, ClockIs, HvIs}
-use Rattle.trace_text.specs.declared.records.Call.TheVariants.{Act, ReadPage, ReadClock}
-use Rattle.race_phase.specs.declared.records.Record.{Record}
-use Rattle.race_phase.specs.Blocks.{block_of, delivery_to, message_to}
+use Rattle.reply_text.specs.Text.{value_text, clock_text}
+use Rattle.trace_blocks.specs.declared.records.Answer.TheVariants.{Acted, PageIs, ClockIs}
+use Rattle.trace_records.specs.declared.Call.TheVariants.{Act, ReadPage, ReadClock}
+use Rattle.trace_blocks.specs.declared.records.Record.{Record}
+use Rattle.trace_blocks.proofs.Rows.{page, routed}
+use Rattle.trace_blocks.specs.declared.ends.End.TheVariants.{Finish, Save, Move}
+use Rattle.trace_blocks.specs.Blocks.{block_of}
 use Rattle.race_phase.specs.Calls.{records_of, CallMade, locked_page, Shown}
-use Rattle.race_phase.specs.Phases.{next_board, end_entries}
+use Rattle.race_phase.specs.Phases.{end_entries}
 use Rattle.std.specs.List.{filter_map}
 use Rattle.std.proofs.lemmas.List.Elements.{All-nil}
 
@@ -52,63 +48,8 @@ at_power_on = board_at_power_on (record {
   time = record { sec = 0; min = 0; hour = 0; wday = 1; date = 1; month = 1; year = 0 };
 })
 
--- the page of processor 0, enabled at count 0
-abbrev page : Page
-page = record {
-  version = 2;
-  tsc_timestamp = 0;
-  system_time = 0;
-  mul = 0x80000000;
-  shift = pos 0;
-  flags = 1;
-  offset = 0;
-  enabled = true;
-}
-
--- each line to a vector of its own
-abbrev routed : Deliveries
-routed = record {
-  cpus = 2;
-  lines = Some (record { cpu = 0; vector = 0x30 }) ∷ Some (record { cpu = 1; vector = 0x31 }) ∷ Some (record { cpu = 0; vector = 0x32 })
-      ∷ Some (record { cpu = 1; vector = 0x33 })
-      ∷ Some (record { cpu = 0; vector = 0x34 }) ∷ Some (record { cpu = 1; vector = 0x35 }) ∷ [];
-}
-
--- rises of the lines, in the order of their deliveries
-rises : map (delivery_to routed) (0 ∷ 8 ∷ 20 ∷ 21 ∷ 22 ∷ 23 ∷ []) ≡ routed.lines
-rises = refl
-
--- blocks: edges, messages, the reply
-an_access : block_of routed 7 (Acted (record {
-  number = 3;
-  value = Byte 10;
-  edges = record { at = 5; line = 8; up = true } ∷ record { at = 6; line = 8; up = false } ∷ [];
-  bursts = record { timer = 2; first = 4; count = 2; every = 10; address = 0xfee01000; «data» = 0x41 } ∷ [];
-}))
-    ≡ codes "edge 5 8 up 1 31\nedge 6 8 down\nmsg 4 2 1 41 2 10\n7 3 0a\n"
-unfolding block_of edge_text msg_text message_to value_text hex_text digits
-an_access = refl
-
--- a page, a clock and the reference page, on and off
-pages : map (block_of routed 8) (PageIs (PageOn page 900) ∷ PageIs PageOff ∷ [])
-    ≡ codes "8 page 2 0 0 80000000 0 01 900\n" ∷ codes "8 page off\n" ∷ []
-unfolding block_of page_text hex_text digits
-pages = refl
-
-clocks : map (block_of routed 9) (ClockIs (On 900 1000) ∷ HvIs HvOff ∷ []) ≡ codes "9 clock 900 1000\n" ∷ codes "9 hv off\n" ∷ []
-unfolding block_of clock_text hv_text digits
-clocks = refl
-
--- what ends a phase: nothing, a save, a move
-abbrev ends : List End
-ends = Finish ∷ Save 9 1 100 ∷ Move 9 1 100 (record { khz = 3000000; start = 500; gap = 40 }) ∷ []
-
-next_boards : (b : BoardParts) → map (λ e. next_board e b) ends
-    ≡ b ∷ after_access b 1 100 Step ∷ moved_to 3000000 500 40 (after_access b 1 100 Step) ∷ []
-next_boards b = refl
-
 -- the entry of a save and that of a move are the same
-entries_of_ends : (b : BoardParts) → map (λ e. end_entries e b) ends
+entries_of_ends : (b : BoardParts) → map (λ e. end_entries e b) (Finish ∷ Save 9 1 100 ∷ Move 9 1 100 (record { khz = 3000000; start = 500; gap = 40 }) ∷ [])
     ≡ [] ∷ (Board 1 1 100 Step (reply_of b 1 100 Step) ∷ []) ∷ (Board 1 1 100 Step (reply_of b 1 100 Step) ∷ []) ∷ []
 entries_of_ends b = refl
 

@@ -2,10 +2,10 @@
 use Rattle.std.proofs.Common.{◌≡◌, ℕ, ◌+◌, ◌*◌, ◌<◌, ◌≤◌, ◌^◌, List, [], ◌∷◌, ◌++◌, All, length, length-append, sym, ap, subst, arith, Some, None}
 use Rattle.std.proofs.lemmas.List.Elements.{All-append}
 use Rattle.board_types.specs.declared.parts.BoardParts.{BoardParts}
-use Rattle.race_phase.specs.declared.deliveries.Deliveries.{Deliveries}
-use Rattle.race_phase.specs.declared.phases.End.{End}
+use Rattle.trace_blocks.specs.declared.deliveries.Deliveries.{Deliveries}
+use Rattle.trace_blocks.specs.declared.ends.End.{End}
 use Rattle.race_phase.specs.declared.piece.Part.{Part}
-use Rattle.race_phase.specs.declared.records.Record.{Record}
+use Rattle.trace_blocks.specs.declared.records.Record.{Record}
 use Rattle.race_phase.specs.declared.working.Working.{Working}
 use Rattle.race_phase.specs.Calls.{IsFitting, records_of}
 use Rattle.race_phase.specs.Parts.{IsPart, phases_in, open_in}

@@ -13,20 +13,29 @@ use Rattle.board_core.specs.Time.{time_fault}
 use Rattle.board_history.specs.Machine.{Machine}
 use Rattle.board_history.proofs.Pages.{machine_of-access}
 use Rattle.transfer.specs.Move.{moved_to}
-use Rattle.race_phase.specs.declared.faults.Cause.TheVariants.{Access as ByAccess, Count as ByCount, Move as ByMove}
-use Rattle.race_phase.specs.declared.phases.End.{End}
-use Rattle.race_phase.specs.declared.phases.End.TheVariants.{Finish, Save, Move}
+use Rattle.trace_blocks.specs.declared.faults.Cause.TheVariants.{Access as ByAccess, Count as ByCount, Move as ByMove}
+use Rattle.trace_blocks.specs.declared.ends.End.{End}
+use Rattle.trace_blocks.specs.declared.ends.End.TheVariants.{Finish, Save, Move}
 use Rattle.race_phase.specs.declared.phases.Phase.{Phase}
-use Rattle.trace_text.specs.declared.records.Call.{Call}
-use Rattle.trace_text.specs.declared.records.Call.TheVariants.{Act}
-use Rattle.race_phase.specs.declared.records.Record.{Record}
-use Rattle.trace_text.specs.Records.{IsFittingCall}
+use Rattle.trace_records.specs.declared.Call.{Call}
+use Rattle.trace_records.specs.declared.Call.TheVariants.{Act}
+use Rattle.trace_blocks.specs.declared.records.Record.{Record}
+use Rattle.trace_records.specs.Calls.{IsFittingCall}
 use Rattle.race_phase.specs.Calls.{IsFitting}
 use Rattle.race_phase.specs.Tallies.{TallyParts}
 use Rattle.race_phase.specs.private.Ran.{AreAlike}
 use Rattle.race_phase.specs.private.Tallied.{counted, moved_in}
-use Rattle.race_phase.specs.Order.{at_line, call_cause, record_fault, after_call, after_record, after_records, records_fault}
-use Rattle.race_phase.specs.Phases.{IsEnd, IsPhase, next_board, end_fault, after_phase, phase_fault, trace_fault}
+use Rattle.race_phase.specs.Order.{
+  call_cause,
+  record_fault,
+  after_call,
+  after_record,
+  after_records,
+  records_fault,
+}
+use Rattle.trace_blocks.specs.Ends.{at_line}
+use Rattle.race_phase.specs.Phases.{IsPhase, after_phase, phase_fault, trace_fault}
+use Rattle.trace_blocks.specs.Ends.{IsEnd, next_board, end_fault}
 use Rattle.race_phase.proofs.Moves.{moved_cpus, moved_format}
 use Rattle.race_phase.proofs.Taken.{or_none}
 use Rattle.race_phase.proofs.Tallies.{counted-tally, moved-tally, refusal_of-tally, move_fault-tally}

@@ -29,7 +29,7 @@ use Rattle.std.proofs.Common.{
   All,
 }
 use mathlib.Core.List.{IsPrefix}
-use Rattle.race_phase.specs.declared.deliveries.Deliveries.{Deliveries}
+use Rattle.trace_blocks.specs.declared.deliveries.Deliveries.{Deliveries}
 use Rattle.pvclock_page.specs.declared.page.ClockReply.TheVariants.{Off, On}
 use Rattle.board_types.specs.declared.access.Access.{Access}
 use Rattle.board_types.specs.declared.parts.BoardParts.{BoardParts}
@@ -38,11 +38,11 @@ use Rattle.board_history.specs.declared.entry.Entry.{Entry}
 use Rattle.shared_board.specs.declared.known.PassKnown.{PassKnown}
 use Rattle.shared_board.specs.Passes.{mine}
 use Rattle.shared_board.specs.Stops.{PassesTold}
-use Rattle.race_phase.specs.declared.records.Answer.{Answer}
-use Rattle.race_phase.specs.declared.records.Answer.TheVariants.{Acted, PageIs, ClockIs, HvIs}
-use Rattle.trace_text.specs.declared.records.Call.{Call}
-use Rattle.trace_text.specs.declared.records.Call.TheVariants.{Act, ReadPage, ReadClock, ReadHv}
-use Rattle.race_phase.specs.declared.records.Record.{Record}
+use Rattle.trace_blocks.specs.declared.records.Answer.{Answer}
+use Rattle.trace_blocks.specs.declared.records.Answer.TheVariants.{Acted, PageIs, ClockIs, HvIs}
+use Rattle.trace_records.specs.declared.Call.{Call}
+use Rattle.trace_records.specs.declared.Call.TheVariants.{Act, ReadPage, ReadClock, ReadHv}
+use Rattle.trace_blocks.specs.declared.records.Record.{Record}
 use Rattle.race_phase.specs.Calls.{IsFitting, records_of, CallMade, AllMade, Shown}
 use Rattle.race_phase.specs.private.Workers.{IsTrouble, HasStopped, HasWorked, AllWorked, AllTried}
 use Rattle.race_phase.proofs.Counts.{weigh, weigh-append, of_entry, of_call, of_record, reads, part, one, one_there}

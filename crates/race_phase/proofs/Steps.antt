@@ -21,11 +21,11 @@ use Rattle.std.proofs.Common.{
   inr,
   ◌⊎◌,
 }
-use Rattle.race_phase.specs.declared.deliveries.Deliveries.{Deliveries}
+use Rattle.trace_blocks.specs.declared.deliveries.Deliveries.{Deliveries}
 use Rattle.board_types.specs.declared.parts.BoardParts.{BoardParts}
 use Rattle.shared_board.specs.declared.known.PassKnown.{PassKnown}
 use Rattle.shared_board.specs.Passes.{mine}
-use Rattle.race_phase.specs.declared.records.Record.{Record}
+use Rattle.trace_blocks.specs.declared.records.Record.{Record}
 use Rattle.race_phase.specs.declared.working.Working.{Working}
 use Rattle.race_phase.specs.Calls.{records_of, AllMade}
 use Rattle.race_phase.specs.private.Workers.{AllButLast, AllTried, HasHalted, HasPrinted, HasStopped, HasWorked}

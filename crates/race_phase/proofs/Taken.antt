@@ -46,8 +46,8 @@ use Rattle.clk_units.specs.declared.ranges.TheConstants.{RANGE_NS}
 use Rattle.host_counter.specs.declared.Anchor.{Anchor}
 use Rattle.host_counter.specs.declared.TimeFault.TheVariants.{BeforeStart, OutOfRange}
 use Rattle.host_counter.specs.Time.{time_at}
-use Rattle.race_phase.specs.declared.faults.Cause.TheVariants.{Access as ByAccess, Count as ByCount}
-use Rattle.race_phase.specs.declared.deliveries.Deliveries.{Deliveries}
+use Rattle.trace_blocks.specs.declared.faults.Cause.TheVariants.{Access as ByAccess, Count as ByCount}
+use Rattle.trace_blocks.specs.declared.deliveries.Deliveries.{Deliveries}
 use Rattle.board_types.specs.declared.access.Access.{Access}
 use Rattle.board_types.specs.declared.parts.BoardParts.{BoardParts}
 use Rattle.board_types.specs.declared.parts.TheConstants.{LAST_VERSION, MOST_ACCESSES}
@@ -73,15 +73,23 @@ use Rattle.board_history.proofs.Refusals.{refused_why}
 use Rattle.shared_board.specs.declared.known.PassKnown.{PassKnown}
 use Rattle.shared_board.specs.Faults.{page_reads}
 use Rattle.shared_board.specs.Stops.{StopTold}
-use Rattle.race_phase.specs.declared.faults.Cause.{Cause}
-use Rattle.race_phase.specs.declared.faults.Fault.{Fault}
-use Rattle.trace_text.specs.declared.records.Call.{Call}
-use Rattle.trace_text.specs.declared.records.Call.TheVariants.{Act}
-use Rattle.race_phase.specs.declared.records.Record.{Record}
-use Rattle.trace_text.specs.Records.{IsFittingCall}
+use Rattle.trace_blocks.specs.declared.faults.Cause.{Cause}
+use Rattle.trace_blocks.specs.declared.faults.Fault.{Fault}
+use Rattle.trace_records.specs.declared.Call.{Call}
+use Rattle.trace_records.specs.declared.Call.TheVariants.{Act}
+use Rattle.trace_blocks.specs.declared.records.Record.{Record}
+use Rattle.trace_records.specs.Calls.{IsFittingCall}
 use Rattle.race_phase.specs.Calls.{IsFitting, Shown}
 use Rattle.race_phase.specs.private.Ran.{PhaseTold}
-use Rattle.race_phase.specs.Order.{at_line, call_cause, record_fault, after_call, after_record, after_records, records_fault}
+use Rattle.race_phase.specs.Order.{
+  call_cause,
+  record_fault,
+  after_call,
+  after_record,
+  after_records,
+  records_fault,
+}
+use Rattle.trace_blocks.specs.Ends.{at_line}
 use Rattle.race_phase.specs.private.Workers.{CallTrouble, AllWorked}
 use Rattle.race_phase.proofs.Counts.{
   weigh,

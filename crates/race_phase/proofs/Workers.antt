@@ -42,7 +42,7 @@ use Rattle.std.proofs.Math.Seq.{take-suc, drop-cons, get_or-append_seam}
 use Rattle.std.proofs.lemmas.List.{length-take-le, take-append-drop, take_more_set, map-append}
 use Rattle.std.proofs.lemmas.Option.{slice_get-get_or, get_or_from_slice_get, slice_get_within}
 use native.Mathlib.Decide.{ℕ_discrete}
-use Rattle.race_phase.specs.declared.deliveries.Deliveries.{Deliveries}
+use Rattle.trace_blocks.specs.declared.deliveries.Deliveries.{Deliveries}
 use Rattle.board_types.specs.declared.parts.BoardParts.{BoardParts}
 use Rattle.board_history.specs.declared.entry.Entry.{Entry}
 use Rattle.board_history.specs.declared.entry.Entry.TheVariants.{Opened}
@@ -50,9 +50,9 @@ use Rattle.clock_table.specs.declared.view.Miss.{Miss}
 use Rattle.shared_board.specs.declared.known.PassKnown.{PassKnown}
 use Rattle.shared_board.specs.Passes.{mine, Unanswered, IsUpdate}
 use Rattle.shared_board.specs.Stops.{newcomers}
-use Rattle.race_phase.specs.declared.records.Answer.{Answer}
-use Rattle.race_phase.specs.declared.records.Record.{Record}
-use Rattle.race_phase.specs.Blocks.{block_of}
+use Rattle.trace_blocks.specs.declared.records.Answer.{Answer}
+use Rattle.trace_blocks.specs.declared.records.Record.{Record}
+use Rattle.trace_blocks.specs.Blocks.{block_of}
 use Rattle.race_phase.specs.Calls.{IsFitting, records_of, CallMade, AllMade, locked_page, IsTried}
 use Rattle.race_phase.specs.declared.batch.Place.{Place}
 use Rattle.race_phase.specs.private.Told.{answer_with}

@@ -22,7 +22,7 @@ use Rattle.std.specs.Prelude.{
   IsTrue,
 }
 use Rattle.std.specs.List.{filter, filter_map}
-use Rattle.race_phase.specs.declared.deliveries.Deliveries.{Deliveries}
+use Rattle.trace_blocks.specs.declared.deliveries.Deliveries.{Deliveries}
 use Rattle.hv_page.specs.declared.page.HvPage.{HvPage}
 use Rattle.pvclock_page.specs.declared.page.Page.{Page}
 use Rattle.pvclock_page.specs.declared.page.ClockReply.TheVariants.{Off, On}
@@ -35,13 +35,13 @@ use Rattle.board_history.specs.declared.entry.Entry.{Entry}
 use Rattle.board_history.specs.declared.entry.Entry.TheVariants.{Board, PageRead, HvRead, Clamp}
 use Rattle.clock_table.specs.declared.view.Miss.{Miss}
 use Rattle.shared_board.specs.Passes.{IsUpdate}
-use Rattle.race_phase.specs.declared.records.Answer.{Answer}
-use Rattle.race_phase.specs.declared.records.Answer.TheVariants.{Acted, PageIs, ClockIs, HvIs}
-use Rattle.trace_text.specs.Records.{IsFittingCall}
-use Rattle.trace_text.specs.declared.records.Call.{Call}
-use Rattle.trace_text.specs.declared.records.Call.TheVariants.{Act, ReadPage, ReadClock, ReadHv}
-use Rattle.race_phase.specs.declared.records.Record.{Record}
-use Rattle.race_phase.specs.Blocks.{block_of}
+use Rattle.trace_blocks.specs.declared.records.Answer.{Answer}
+use Rattle.trace_blocks.specs.declared.records.Answer.TheVariants.{Acted, PageIs, ClockIs, HvIs}
+use Rattle.trace_records.specs.Calls.{IsFittingCall}
+use Rattle.trace_records.specs.declared.Call.{Call}
+use Rattle.trace_records.specs.declared.Call.TheVariants.{Act, ReadPage, ReadClock, ReadHv}
+use Rattle.trace_blocks.specs.declared.records.Record.{Record}
+use Rattle.trace_blocks.specs.Blocks.{block_of}
 
 -- a board of this many processors and this format has that of the record, and takes what it asks
 abbrev pub IsFitting : ℕ → ℕ → Record → Type 0

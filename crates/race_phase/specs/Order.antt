@@ -5,16 +5,13 @@ use Rattle.board_types.specs.declared.parts.BoardParts.{BoardParts}
 use Rattle.board_core.specs.Access.{after_access}
 use Rattle.board_core.specs.Time.{time_fault}
 use Rattle.board_core.specs.Refusals.{refusal_of}
-use Rattle.race_phase.specs.declared.faults.Cause.{Cause}
-use Rattle.race_phase.specs.declared.faults.Cause.TheVariants.{Access as ByAccess, Count as ByCount}
-use Rattle.race_phase.specs.declared.faults.Fault.{Fault}
-use Rattle.trace_text.specs.declared.records.Call.{Call}
-use Rattle.trace_text.specs.declared.records.Call.TheVariants.{Act, ReadPage, ReadClock, ReadHv}
-use Rattle.race_phase.specs.declared.records.Record.{Record}
-
--- a cause, with the line that is refused for it
-abbrev pub at_line : ℕ → Option Cause → Option Fault
-at_line line cause = option_map (λ c. record { line = line; cause = c }) cause
+use Rattle.trace_blocks.specs.declared.faults.Cause.{Cause}
+use Rattle.trace_blocks.specs.declared.faults.Cause.TheVariants.{Access as ByAccess, Count as ByCount}
+use Rattle.trace_blocks.specs.declared.faults.Fault.{Fault}
+use Rattle.trace_blocks.specs.Ends.{at_line}
+use Rattle.trace_records.specs.declared.Call.{Call}
+use Rattle.trace_records.specs.declared.Call.TheVariants.{Act, ReadPage, ReadClock, ReadHv}
+use Rattle.trace_blocks.specs.declared.records.Record.{Record}
 
 -- why a call is refused: an access by the board, a read as its count has no time
 abbrev pub call_cause : BoardParts → ℕ → ℕ → Call → Option Cause

@@ -16,12 +16,12 @@ use Rattle.std.specs.Prelude.{
 }
 use Rattle.std.specs.Sync.OnceLock.{Named}
 use Rattle.race_phase.specs.declared.opening.Opening.{Opening}
-use Rattle.race_phase.specs.declared.phases.End.{End}
+use Rattle.trace_blocks.specs.declared.ends.End.{End}
 use Rattle.race_phase.specs.declared.phases.Phase.{Phase}
 use Rattle.race_phase.specs.declared.piece.Part.{Part}
-use Rattle.race_phase.specs.declared.records.Record.{Record}
+use Rattle.trace_blocks.specs.declared.records.Record.{Record}
 use Rattle.race_phase.specs.Calls.{IsFitting}
-use Rattle.race_phase.specs.Phases.{IsEnd}
+use Rattle.trace_blocks.specs.Ends.{IsEnd}
 
 -- the name of a place
 abbrev pub id_of : Named → ℕ

@@ -14,8 +14,6 @@ ghost use Rattle.race_phase.specs.private.Workers.{
   HasPrinted,
 };
 
-use crate::deliveries::Deliveries;
-use crate::records::Record;
 use crate::texts::append_block;
 use crate::told::Told;
 use crate::worker::Worker;
@@ -26,7 +24,8 @@ use clock_table::Name;
 use shared_board::{Asked, Holding, Pass};
 use std::alloc::Global;
 use std::sync::Wait;
-use trace_text::Call;
+use trace_blocks::{Deliveries, Record};
+use trace_records::Call;
 
 // The count of the reply's edges is last in it, beside what each record asks for.
 /// What a record was told, until it is printed. Its reply is put where it stays, so that no list of edges is moved.

@@ -32,9 +32,6 @@
 #![tactic(auto)]
 
 mod batch;
-mod deliveries;
-mod ends;
-mod faults;
 mod feed;
 mod halt;
 mod means;
@@ -45,8 +42,6 @@ mod phase;
 mod phases;
 mod piece;
 mod race;
-mod records;
-mod schedule;
 mod tally;
 mod text;
 mod texts;
@@ -57,21 +52,13 @@ mod working;
 mod writer;
 mod written;
 
-pub use deliveries::Deliveries;
-pub use ends::end_phase;
-pub use faults::{Cause, Fault};
 pub use feed::{Feed, Feeding, Row};
 pub use halt::Halt;
 pub use opening::Opening;
 pub use packed::RecordList;
-pub use phases::{End, NewHost, Phase};
+pub use phases::Phase;
 pub use race::{Ran, run_race};
-pub use records::{Answer, Record};
 pub use tally::Tally;
-pub use text::Text;
-pub use texts::access_block;
+pub use text::{SHORT, Text};
 pub use writer::Writer;
 pub use written::Written;
-
-#[cfg(test)]
-mod tests;

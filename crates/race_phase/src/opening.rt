@@ -1,6 +1,6 @@
 //! What a trace begins with.
-use crate::deliveries::Deliveries;
 use board_core::BoardState;
+use trace_blocks::Deliveries;
 
 /// What a trace begins with.
 #[derive(Drop)]

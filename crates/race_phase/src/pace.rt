@@ -1,9 +1,9 @@
 //! How many accesses a worker makes each time that it has the lock, and when it asks for it.
 ghost use Rattle.std.specs.Prelude.{◌≡◌, ◌<◌, ◌≤◌};
 
-use crate::schedule::Schedule;
 use std::hint::spin_loop;
 use std::sync::Wait;
+use worker_turns::Schedule;
 
 /// The most records that a worker answers before it gives the lock back, and the fewest where many are left.
 pub(crate) const MOST_AT_ONCE: usize = 16;

@@ -1,15 +1,15 @@
 //! The records of a phase, in few bytes each.
 ghost use Rattle.std.specs.Prelude.{◌≡◌, ◌<◌, ◌++◌, [], ◌∷◌, length, slice_get, Some, IfSome, IfOk, OnOk, OnErr};
-ghost use Rattle.trace_text.specs.declared.records.Call.TheVariants.{Act};
+ghost use Rattle.trace_records.specs.declared.Call.TheVariants.{Act};
 ghost use Rattle.race_phase.specs.private.Packed.{call_of, IsPacked, IsIn, unpacked, Extends};
 
-use crate::records::Record;
 use board_core::Access;
 use clk_units::NoMemory;
 use std::alloc::Global;
 use std::marker::Model;
 use std::mem::size_of;
-use trace_text::Call;
+use trace_blocks::Record;
+use trace_records::Call;
 
 /// What most records ask, in few bytes.
 #[derive(Clone, Copy)]
@@ -58,7 +58,7 @@ pub struct RecordList {
 
 impl Model for RecordList {
     ghost use Rattle.std.specs.Prelude.{List};
-    ghost use Rattle.race_phase.specs.declared.records.Record.{Record};
+    ghost use Rattle.trace_blocks.specs.declared.records.Record.{Record};
     ghost use Rattle.race_phase.specs.private.Packed.{unpacked_all, ArePacked};
 
     ghost Value = { List Record };

@@ -1,16 +1,13 @@
 //! The records of a phase, each processor's in a thread of its own.
 ghost use Rattle.std.specs.Prelude.{◌≡◌, ◌<◌, [], IfOk, vec_len};
 ghost use Rattle.std.specs.Bool.{OnTrue};
-ghost use Rattle.race_phase.specs.declared.deliveries.Deliveries.{Deliveries};
+ghost use Rattle.trace_blocks.specs.declared.deliveries.Deliveries.{Deliveries};
 ghost use Rattle.shared_board.specs.Passes.{mine};
 ghost use Rattle.race_phase.specs.private.Feed.{AllRan, GatheredAll, HasRun, PhaseRun};
 
-use crate::deliveries::Deliveries;
 use crate::feed::{Feed, Feeding, Spot, Taken, agree};
 use crate::halt::Halt;
 use crate::means::Means;
-use crate::phases::End;
-use crate::schedule::Schedule;
 use crate::text::Text;
 use crate::work::{Worked, work};
 use crate::worker::Worker;
@@ -21,6 +18,8 @@ use shared_board::{Pass, SharedBoard};
 use std::alloc::Global;
 use std::sync::Wait;
 use std::thread::{Threads, map_vec};
+use trace_blocks::{Deliveries, End};
+use worker_turns::Schedule;
 
 /// A phase whose records were run.
 #[derive(Drop)]

@@ -3,8 +3,8 @@ ghost use Rattle.std.specs.Prelude.{◌≡◌, All, IfSome, length};
 ghost use Rattle.race_phase.specs.Parts.{IsPart, part_at};
 
 use crate::packed::RecordList;
-use crate::phases::End;
 use std::marker::Model;
+use trace_blocks::End;
 
 /// How many records a part has at most.
 pub(crate) const PART_LEN: usize = 2_048;

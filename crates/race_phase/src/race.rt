@@ -3,13 +3,10 @@ ghost use Rattle.std.specs.Prelude.{◌≡◌, ◌++◌, [], None, IfOk, IfSome,
 ghost use Rattle.race_phase.specs.Phases.{trace_fault, race_text};
 ghost use Rattle.race_phase.specs.private.Feed.{PhaseHasEnded, board_or};
 
-use crate::deliveries::Deliveries;
-use crate::ends::end_phase;
 use crate::feed::{Feed, Feeding, Spot, Taken};
 use crate::halt::Halt;
 use crate::means::Means;
 use crate::phase::{RanPhase, run_phase};
-use crate::phases::End;
 use crate::text::Text;
 use crate::written::Written;
 use board_core::BoardState;
@@ -20,6 +17,7 @@ use std::alloc::Global;
 use std::marker::Brand;
 use std::sync::Wait;
 use std::thread::Threads;
+use trace_blocks::{Deliveries, End, end_phase};
 
 /// How many phases a trace has at most: it has fewer.
 const MOST_PHASES: usize = 1 << 20;

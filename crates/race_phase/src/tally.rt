@@ -45,7 +45,6 @@ ghost use Rattle.race_phase.specs.private.Tallied.{
   moved_in,
 };
 
-use crate::phases::NewHost;
 use board_core::{
     Access, BoardState, HV_FORMAT, ProcessorParts, Refusal, published_by, publishes_hv,
     publishes_wall, spent_accesses, spent_version, wall_version_after,
@@ -53,6 +52,7 @@ use board_core::{
 use clk_units::RANGE_NS;
 use host_counter::{Anchor, TimeFault};
 use std::marker::Model;
+use trace_blocks::NewHost;
 use transfer::{MoveFault, spent_page};
 
 /// The counts of a board on which its refusals depend, without its devices: it refuses what the board would, and counts

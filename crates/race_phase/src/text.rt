@@ -9,7 +9,7 @@ use std::marker::Model;
 
 /// A text up to this length is put onto the piece before it, where that is as short: so many short texts make few
 /// pieces, and no long one is copied.
-const SHORT: usize = 16 * 1024;
+pub const SHORT: usize = 16 * 1024;
 
 /// A text in pieces, one after another.
 #[derive(Drop)]
@@ -66,29 +66,6 @@ impl Text {
     {
         for piece in more.pieces {
             self.append(piece)?;
-        }
-        Ok(())
-    }
-}
-
-#[cfg(test)]
-mod tests {
-    use super::*;
-    use std::test::*;
-
-    #[test]
-    fn short_texts_are_joined_and_long_ones_are_not(rt: HostRuntime) -> Result<(), Fail> {
-        let alloc = rt.alloc();
-        let mut text = Text::new(alloc);
-        for len in [0, 3, 0, SHORT, SHORT + 1, 2, 5] {
-            if text.append(vec![in alloc; b'.'; len]?).is_err() {
-                return Err("no memory".into());
-            }
-        }
-        let pieces = text.pieces();
-        assert_eq!(rt; pieces.len(), 3);
-        for (piece, len) in pieces.iter().zip([SHORT + 3, SHORT + 1, 7]) {
-            assert_eq!(rt; piece.len(), len);
         }
         Ok(())
     }

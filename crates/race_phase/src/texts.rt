@@ -1,76 +1,16 @@
-//! The blocks of records, which a replay and a race print.
-ghost use Rattle.std.specs.Prelude.{◌≡◌, ◌++◌, OnOk, OnErr};
-ghost use Rattle.std.specs.Io.{StartsWith};
-ghost use Rattle.race_phase.specs.Blocks.{edges_text, messages_text, block_of};
-ghost use Rattle.race_phase.specs.declared.records.Answer.TheVariants.{Acted};
+//! The blocks of records that a worker was told.
+ghost use Rattle.std.specs.Prelude.{◌≡◌, ◌++◌, OnOk};
+ghost use Rattle.trace_blocks.specs.Blocks.{block_of};
 ghost use Rattle.race_phase.specs.private.Told.{answer_with};
 
-use crate::deliveries::{Deliveries, counted_edge_lines, edge_lines, message_lines};
 use crate::told::Told;
 use board_core::Reply;
 use clk_units::NoMemory;
-use reply_text::{CountedLines, board_line, clock_line, hv_line, page_line};
-
-/// Appends the lines of the edges of an access, and of its messages. After an `Err` the text begins as it was.
-#[inline(always)]
-pub(crate) fn event_lines(
-    reply: &Reply,
-    deliveries: &Deliveries,
-    out: &mut Vec<u8>,
-) -> Result<(), NoMemory>
-    ensures ok { OnOk result (out.new.items ≡ out.old.items
-        ++ (edges_text deliveries.now reply.now.edges ++ messages_text deliveries.now reply.now.bursts)) }
-    ensures err { OnErr result (StartsWith out.new.items out.old.items) }
-{
-    edge_lines(reply.edges.as_slice(), deliveries, out)?;
-    message_lines(&reply.bursts, deliveries, out)
-}
-
-/// Appends the block of an access: its edges, its messages, and its line. Where `counted` is given it prints the edges and the
-/// line. After an `Err` the text begins as it was.
-#[inline(always)]
-#[tactic(auto, unfolding(crate::specs::Blocks::block_of))]
-pub fn access_block(
-    line: u64,
-    reply: &Reply,
-    deliveries: &Deliveries,
-    counted: Option<&mut CountedLines>,
-    out: &mut Vec<u8>,
-) -> Result<(), NoMemory>
-    ensures ok { OnOk result
-        (out.new.items ≡ out.old.items ++ block_of deliveries.now line (Acted reply.now)) }
-    ensures err { OnErr result (StartsWith out.new.items out.old.items) }
-{
-    match counted {
-        Some(lines) => counted_block(line, reply, deliveries, lines, out),
-        None => {
-            event_lines(reply, deliveries, out)?;
-            board_line(line, reply, out)
-        }
-    }
-}
-
-/// The same where `lines` prints the edges and the line.
-#[inline(always)]
-#[tactic(auto, unfolding(crate::specs::Blocks::block_of))]
-fn counted_block(
-    line: u64,
-    reply: &Reply,
-    deliveries: &Deliveries,
-    lines: &mut CountedLines,
-    out: &mut Vec<u8>,
-) -> Result<(), NoMemory>
-    ensures ok { OnOk result
-        (out.new.items ≡ out.old.items ++ block_of deliveries.now line (Acted reply.now)) }
-    ensures err { OnErr result (StartsWith out.new.items out.old.items) }
-{
-    counted_edge_lines(reply.edges.as_slice(), deliveries, lines, out)?;
-    message_lines(&reply.bursts, deliveries, out)?;
-    lines.board_line(line, reply, out)
-}
+use reply_text::{clock_line, hv_line, page_line};
+use trace_blocks::{Deliveries, access_block};
 
 /// Appends the block of a record that was answered so; the reply of an access is this.
-#[tactic(auto, unfolding(crate::specs::Blocks::block_of))]
+#[tactic(auto, unfolding(trace_blocks::specs::Blocks::block_of))]
 pub(crate) fn append_block(
     line: u64,
     told: &Told,

@@ -7,9 +7,7 @@ ghost use Rattle.race_phase.specs.private.Feed.{HasRun};
 use crate::feed::{Feed, Feeding, Spot, Taken};
 use crate::halt::Halt;
 use crate::pace::{FEW, Pace};
-use crate::phases::End;
 use crate::piece::{Part, Piece};
-use crate::schedule::Schedule;
 use crate::worker::Worker;
 use crate::working::Working;
 use board_io::Gate;
@@ -17,6 +15,8 @@ use clock_table::Name;
 use shared_board::Pass;
 use std::alloc::Global;
 use std::sync::Wait;
+use trace_blocks::End;
+use worker_turns::Schedule;
 
 /// How many parts a phase has at most: a trace has fewer.
 const MOST_PARTS: usize = 1 << 20;

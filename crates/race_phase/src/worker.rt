@@ -1,7 +1,7 @@
 //! What a worker has at hand.
-use crate::deliveries::Deliveries;
 use clock_table::Name;
 use shared_board::SharedBoard;
+use trace_blocks::Deliveries;
 
 /// What a worker answers its records with, the same for all of them.
 #[derive(Drop)]

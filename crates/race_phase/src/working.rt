@@ -2,15 +2,14 @@
 ghost use Rattle.std.specs.Prelude.{◌≡◌, ◌<◌, ◌≤◌, ◌+◌, ◌^◌, ℕ, [], ◌++◌, All, List, IfOk, OnOk, false, length};
 ghost use Rattle.board_history.specs.History.{IsLegal};
 ghost use Rattle.shared_board.specs.Passes.{mine};
-ghost use Rattle.race_phase.specs.declared.deliveries.Deliveries.{Deliveries};
+ghost use Rattle.trace_blocks.specs.declared.deliveries.Deliveries.{Deliveries};
 ghost use Rattle.race_phase.specs.Calls.{IsFitting};
-ghost use Rattle.race_phase.specs.declared.records.Record.{Record};
+ghost use Rattle.trace_blocks.specs.declared.records.Record.{Record};
 ghost use Rattle.race_phase.specs.private.Working.{IsReady, IsWorking};
 
 use crate::batch::{Halted, Place, new_places, print_all};
 use crate::pace::{MOST_AT_ONCE, Pace};
 use crate::packed::RecordList;
-use crate::records::Record;
 use crate::worker::Worker;
 use board_io::Gate;
 use clk_units::NoMemory;
@@ -18,6 +17,7 @@ use clock_table::Name;
 use shared_board::Pass;
 use std::alloc::Global;
 use std::sync::Wait;
+use trace_blocks::Record;
 
 /// About how many bytes the block of a record has: most have a line and no edge.
 const BLOCK_LEN: u64 = 40;

@@ -2,21 +2,19 @@
 ghost use Rattle.std.specs.Prelude.{◌≡◌, ◌++◌, [], ◌∷◌, IfOk, IfSome, OnOk, OnErr, IsErr, Some, None, length};
 ghost use Rattle.race_phase.specs.Calls.{IsFitting};
 ghost use Rattle.race_phase.specs.Parts.{emptied, phase_by, left_open};
-ghost use Rattle.race_phase.specs.Phases.{IsEnd};
+ghost use Rattle.trace_blocks.specs.Ends.{IsEnd};
 
-use crate::deliveries::Deliveries;
 use crate::feed::{Feed, Feeding, Opened, Shown, Taken};
 use crate::opening::Opening;
 use crate::packed::RecordList;
-use crate::phases::End;
 use crate::piece::{PART_LEN, Part, Piece};
-use crate::records::Record;
 use crate::written::Written;
 use board_core::BoardState;
 use clk_units::NoMemory;
 use std::alloc::Global;
 use std::marker::Model;
 use std::mem;
+use trace_blocks::{Deliveries, End, Record};
 
 /// With so many entries, one more is as many as a piece has.
 const LAST_ENTRY: usize = PART_LEN - 1;

@@ -31,6 +31,3 @@ pub use ends::{Reason, Refused, final_line, refused_line};
 pub use replies::{board_line, msg_line, value_line};
 pub use saved::{move_line, save_line, state_line};
 pub use soak::soak_line;
-
-#[cfg(test)]
-mod tests;

@@ -23,7 +23,7 @@ pub use alarms::{first_match, matches};
 pub use bytes::{is_spelt, spelt};
 pub use calendar::month_length;
 pub use passing::{Elapsed, let_pass};
-pub use updates::after;
+pub use updates::{after, updated};
 
 /// The seven time bytes, as the clock's registers 0, 2, 4 and 6 to 9 hold them: seconds, minutes, hours, day
 /// of the week (1 is Sunday), date, month, and year of the century. Any bytes are allowed.
@@ -54,6 +54,3 @@ pub struct Alarm {
     pub min: u8,
     pub hour: u8,
 }
-
-#[cfg(test)]
-mod tests;

@@ -48,9 +48,10 @@ pub(crate) fn bytes_of(m: Moment, form: Form) -> TimeBytes
     }
 }
 
-/// The bytes after one update.
+/// The bytes after one update (data sheet, "Update cycle"). It is the plain form of `after`, update by update, for whoever
+/// compares with it.
 #[tactic(auto, unfolding(crate::specs::Updates::updated))]
-pub(crate) fn updated(bytes: TimeBytes, form: Form) -> TimeBytes
+pub fn updated(bytes: TimeBytes, form: Form) -> TimeBytes
     ensures { result ≡ updated form bytes }
 {
     bytes_of(next_second(moment_of(bytes, form)), form)

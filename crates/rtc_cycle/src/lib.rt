@@ -25,6 +25,3 @@ mod stretch;
 pub use divider::Divider;
 pub use events::CycleEvents;
 pub use parts::DividerParts;
-
-#[cfg(test)]
-mod tests;

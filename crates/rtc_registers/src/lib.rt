@@ -30,6 +30,3 @@ pub use rtc::Rtc;
 
 /// Pulses of the crystal in a second.
 pub const RTC_HZ: u64 = 32_768;
-
-#[cfg(test)]
-mod tests;

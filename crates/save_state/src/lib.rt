@@ -31,6 +31,3 @@ mod whole;
 pub use decoding::decode;
 pub use encoding::encode;
 pub use fault::{StateFault, StateKind};
-
-#[cfg(test)]
-mod tests;

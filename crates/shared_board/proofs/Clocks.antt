@@ -24,7 +24,7 @@ use Rattle.shared_board.specs.Passes.{Made}
 use Rattle.shared_board.specs.Pages.{HadRoom, PageWasRead, ClockWasRead, HasTriedPage, HasTriedClock, HasLockedPage, HasLockedClock, HasReadPage, HasReadClock}
 use Rattle.shared_board.specs.Faults.{page_reads, IsPageFault}
 use Rattle.shared_board.specs.private.Seats.{known, IsAtRest, IsLastRead, HasClamped}
-use Rattle.shared_board.specs.private.Tries.{IsTryFault}
+use Rattle.shared_board.specs.Tries.{IsTryFault}
 use Rattle.shared_board.proofs.Made.{made_more, made_last, heard_made, missed_known, tried_on}
 
 weight-le : (b : Bool) → weight b ≤ 1

@@ -11,7 +11,7 @@ use Rattle.board_history.specs.History.{is_of}
 use Rattle.shared_board.specs.declared.known.PassKnown.{PassKnown}
 use Rattle.shared_board.specs.Passes.{mine, Made, Answered, Unanswered, Tried, Missed}
 use Rattle.shared_board.specs.private.Seats.{known, IsAtRest, PenMoved}
-use Rattle.shared_board.specs.private.Tries.{HasMissed}
+use Rattle.shared_board.specs.Tries.{HasMissed}
 use Rattle.std.specs.List.{last_or}
 
 prefix_of : (xs between ys : List Entry) (e : Entry) → ys ≡ (xs ++ between) ++ e ∷ [] → IsPrefix xs ys

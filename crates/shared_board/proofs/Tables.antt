@@ -25,7 +25,7 @@ use Rattle.shared_board.specs.Passes.{Made, Missed}
 use Rattle.shared_board.specs.Pages.{HadRoom, PageWasRead, HasTriedPage, HasLockedPage, HasReadPage}
 use Rattle.shared_board.specs.Hv.{HvWasRead, HasTriedHv, HasLockedHv, HasReadHv}
 use Rattle.shared_board.specs.private.Seats.{known, IsAtRest, IsBelow, IsApplied}
-use Rattle.shared_board.specs.private.Tries.{HasHeard, IsTryFault}
+use Rattle.shared_board.specs.Tries.{HasHeard, IsTryFault}
 use Rattle.shared_board.specs.private.Tables.{TableRead, HasTriedTable, HasLockedTable, HasReadTable}
 use Rattle.shared_board.proofs.Seats.{heard_rests, below_heard, below_as, alike_machine}
 use Rattle.clock_table.specs.declared.call.Asked.{Asked}

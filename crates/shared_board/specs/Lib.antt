@@ -5,4 +5,5 @@ pub mod Hv
 pub mod Faults
 pub mod Reads
 pub mod Stops
+pub mod Tries
 pub mod private

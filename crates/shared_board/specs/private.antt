@@ -1,4 +1,3 @@
 -- What proofs and private contracts alone cite.
 pub mod Seats
-pub mod Tries
 pub mod Tables

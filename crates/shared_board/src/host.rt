@@ -14,8 +14,8 @@ const MILLISECOND_NS: u128 = 1_000_000;
 /// The host's clock by its anchor. Counts below `end` are known not to be past the range, so no time is worked out for
 /// them.
 #[derive(Drop)]
-pub(crate) struct HostClock {
-    pub(crate) anchor: Anchor,
+pub struct HostClock {
+    pub anchor: Anchor,
     end: u64,
     ghost rate: { IsKhz anchor.khz },
     ghost timed: { (h : ℕ) → h < end → time_at anchor h < RANGE_NS },
@@ -23,7 +23,7 @@ pub(crate) struct HostClock {
 
 impl HostClock {
     /// The clock of an anchor.
-    pub(crate) fn new(anchor: Anchor) -> HostClock
+    pub fn new(anchor: Anchor) -> HostClock
         requires { IsKhz anchor.khz }
         ensures { result.anchor ≡ anchor }
     {
@@ -33,7 +33,7 @@ impl HostClock {
 
     /// Whether a count has a time, or why it has none.
     #[inline]
-    pub(crate) fn check(&self, h: u64) -> Result<(), TimeFault>
+    pub fn check(&self, h: u64) -> Result<(), TimeFault>
         ensures time { OnOk result (HasTime self.now.anchor h) }
         ensures fault { IfErr result (IsFaultAt self.now.anchor h) }
     {

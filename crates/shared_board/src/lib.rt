@@ -26,8 +26,6 @@ mod pass;
 mod pens;
 mod shared;
 mod stop;
-#[cfg(test)]
-mod tests;
 mod tries;
 mod waiters;
 
@@ -35,6 +33,8 @@ pub use clock_table::Asked;
 pub use fault::{LockedFault, PageFault};
 pub use held::Held;
 pub use holding::Holding;
+pub use host::HostClock;
 pub use known::PassKnown;
 pub use pass::Pass;
 pub use shared::{PassesOut, SharedBoard, Stopped};
+pub use tries::try_table_on;

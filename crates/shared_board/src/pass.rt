@@ -1,5 +1,5 @@
 //! A caller's pass.
-ghost use Rattle.std.specs.Prelude.{◌≡◌, ◌≤◌, ℕ, []};
+ghost use Rattle.std.specs.Prelude.{◌≡◌, ◌≤◌, ℕ, [], None, Some};
 ghost use Rattle.board_history.specs.History.{entries_of, IsLegal};
 
 use crate::known::PassKnown;
@@ -34,5 +34,16 @@ impl<N: Name> Pass<N> {
         ensures below { (k : ℕ) → N.passes ≤ k → entries_of k self.now.seen ≡ [] }
     {
         self.number
+    }
+
+    /// The seat of a pass that is given up, for a reader that loads the words of a page itself, one by one. The board then
+    /// never stops, since that asks for all its passes.
+    pub fn into_seat(self) -> ClockSeat<N>
+        ensures number { result.number ≡ Some self.number }
+        ensures meet { result.meet ≡ None }
+        ensures seen { result.seen ≡ self.seen }
+    {
+        let Pass { number: _, seat } = self;
+        seat
     }
 }

@@ -122,6 +122,12 @@ impl<N: Name> SharedBoard<N> {
         Ok((board, list))
     }
 
+    /// The words of the board's pages, for a reader that loads them itself, one by one, with a seat of its own
+    /// ([`Pass::into_seat`]).
+    pub fn table(&self) -> &ClockTable<N> {
+        &self.table
+    }
+
     // Inlined, so that the list is moved once, to its place at the caller.
     /// An access, under the lock. The gate is called once, when the lock is held.
     #[inline(always)]

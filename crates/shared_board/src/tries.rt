@@ -2,7 +2,7 @@
 ghost use Rattle.std.specs.Prelude.{◌<◌, ◌≤◌, IfOk, IfErr, OnOk};
 ghost use Rattle.board_core.specs.Time.{HasTime};
 ghost use Rattle.clock_table.specs.Calls.{IsPass};
-ghost use Rattle.shared_board.specs.private.Tries.{HasHeard, HasMissed, IsTryFault};
+ghost use Rattle.shared_board.specs.Tries.{HasHeard, HasMissed, IsTryFault};
 
 use crate::fault::PageFault;
 use crate::host::HostClock;
@@ -11,9 +11,9 @@ use pvclock_page::{Page, words_page};
 
 /// What the two loads of the version gave, where they met an update.
 #[derive(Clone, Copy)]
-pub(crate) struct Update {
-    pub(crate) first: u64,
-    pub(crate) second: u64,
+struct Update {
+    first: u64,
+    second: u64,
 }
 
 /// Reads a page of the table: the version, the fields, the version again. `h` is the count in the entry.
@@ -47,9 +47,11 @@ fn read_words<N: Name>(
     Ok(words_page(&[first, stamp, system, scale, offset]))
 }
 
-/// Reads a page of a table at count `h`, without a lock.
+/// Reads a page of a table at count `h`, without a lock, as each read of a [`SharedBoard`](crate::SharedBoard) tries it: for
+/// a reader of the words of a page that a monitor keeps itself. The pages are those of the processors, and after them the
+/// reference page.
 #[inline(always)]
-pub(crate) fn try_table_on<N: Name>(
+pub fn try_table_on<N: Name>(
     table: &ClockTable<N>,
     host: &HostClock,
     seat: &mut ClockSeat<N>,

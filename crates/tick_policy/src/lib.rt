@@ -20,8 +20,6 @@ mod line;
 mod parts;
 mod rules;
 mod stretch;
-#[cfg(test)]
-mod tests;
 
 pub use history::Event;
 pub use line::{Acked, TickLine};

@@ -32,8 +32,6 @@ mod generator;
 mod piece;
 mod records;
 mod source;
-#[cfg(test)]
-mod tests;
 
 pub use generator::{CPUS_MAX, Generator, RECORDS_MAX};
 pub use source::GenSource;

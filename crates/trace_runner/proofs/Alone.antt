@@ -58,25 +58,26 @@ use Rattle.board_history.proofs.Laws.{
   LegalFrom-front,
   LegalFrom-rest,
 }
-use Rattle.race_phase.specs.declared.deliveries.Deliveries.{Deliveries}
-use Rattle.race_phase.specs.Blocks.{block_of}
+use Rattle.trace_blocks.specs.declared.deliveries.Deliveries.{Deliveries}
+use Rattle.trace_blocks.specs.Blocks.{block_of}
 use Rattle.race_phase.specs.Calls.{IsFitting, records_of, CallMade, AllMade, Shown}
-use Rattle.race_phase.specs.Phases.{IsPhase, next_board, end_entries, end_text, PhaseEnded, race_text}
-use Rattle.race_phase.specs.declared.phases.End.{End}
-use Rattle.race_phase.specs.declared.phases.End.TheVariants.{Finish, Save, Move}
+use Rattle.race_phase.specs.Phases.{IsPhase, end_entries, PhaseEnded, race_text}
+use Rattle.trace_blocks.specs.Ends.{next_board, end_text}
+use Rattle.trace_blocks.specs.declared.ends.End.{End}
+use Rattle.trace_blocks.specs.declared.ends.End.TheVariants.{Finish, Save, Move}
 use Rattle.race_phase.specs.declared.phases.Phase.{Phase}
-use Rattle.race_phase.specs.declared.records.Answer.{Answer}
-use Rattle.race_phase.specs.declared.records.Answer.TheVariants.{Acted, PageIs, ClockIs, HvIs}
-use Rattle.trace_text.specs.declared.records.Call.{Call}
-use Rattle.trace_text.specs.declared.records.Call.TheVariants.{Act, ReadPage, ReadClock, ReadHv}
-use Rattle.race_phase.specs.declared.records.Record.{Record}
+use Rattle.trace_blocks.specs.declared.records.Answer.{Answer}
+use Rattle.trace_blocks.specs.declared.records.Answer.TheVariants.{Acted, PageIs, ClockIs, HvIs}
+use Rattle.trace_records.specs.declared.Call.{Call}
+use Rattle.trace_records.specs.declared.Call.TheVariants.{Act, ReadPage, ReadClock, ReadHv}
+use Rattle.trace_blocks.specs.declared.records.Record.{Record}
 use Rattle.trace_runner.specs.FileText.{answer_on, records_text, phase_text, phases_text, file_text}
 use Rattle.trace_runner.specs.Free.{IsFree}
 use Rattle.trace_runner.specs.Race.{RacePrints}
-use Rattle.trace_runner.specs.Replay.{ended}
+use Rattle.trace_replay.specs.Replay.{ended}
 use Rattle.trace_runner.specs.Replayed.{board_after_phases, records_after, replayed}
 use Rattle.trace_runner.specs.Trace.{TraceRead}
-use Rattle.trace_runner.proofs.ReadyNext.{moved-cpus}
+use Rattle.trace_replay.proofs.ReadyNext.{moved-cpus}
 use Rattle.board_history.proofs.Laws.{ratio-by}
 
 -- no entry of a pass from 1 on

@@ -6,10 +6,10 @@ use Rattle.trace_text.specs.Lines.{taken}
 use Rattle.trace_text.specs.declared.faults.RecordFault.{RecordFault}
 use Rattle.trace_text.specs.declared.reading.Item.{Item}
 use Rattle.trace_text.specs.declared.reading.Item.TheVariants.{Next}
-use Rattle.trace_text.specs.declared.records.Record.{Record as Written}
+use Rattle.trace_records.specs.declared.Record.{Record as Written}
 use Rattle.trace_loop.specs.Progress.{Closing, Answer, Goes, Ends, Progress, opened, told, answered, after_bytes, closed, ran, finished}
-use Rattle.trace_runner.specs.Records.{stops}
-use Rattle.trace_runner.specs.Replay.{record_answer, at_start}
+use Rattle.trace_replay.specs.Records.{stops}
+use Rattle.trace_replay.specs.Replay.{record_answer, at_start}
 use Rattle.trace_runner.specs.Check.{
   has_form,
   is_full,
@@ -31,9 +31,9 @@ use Rattle.trace_runner.specs.Checking.{Checking}
 use Rattle.trace_runner.specs.Trace.{TraceRead}
 use Rattle.trace_runner.specs.Checked.{Checked}
 use Rattle.trace_runner.specs.Checked.Checked.{Whole, Stopped}
-use Rattle.trace_runner.specs.declared.replay.Replay.{Replay}
-use Rattle.trace_runner.specs.declared.status.Verdict.{Verdict}
-use Rattle.trace_runner.proofs.Stays.{stays, stays-closed}
+use Rattle.trace_replay.specs.declared.replay.Replay.{Replay}
+use Rattle.trace_replay.specs.declared.status.Verdict.{Verdict}
+use Rattle.trace_replay.proofs.Stays.{stays, stays-closed}
 
 -- nothing is printed before the end, nor with a whole trace
 abbrev Silent : Option Checked → List ℕ → Type 0

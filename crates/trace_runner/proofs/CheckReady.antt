@@ -4,20 +4,21 @@ use Rattle.std.proofs.lemmas.Bool.{cond_both, leb-false}
 use Rattle.clk_units.specs.declared.NoMemory.{NoMemory}
 use Rattle.board_types.specs.declared.parts.BoardParts.{BoardParts}
 use Rattle.trace_text.specs.Lines.{taken, IsItem, IsRecordAt}
-use Rattle.trace_text.specs.Records.{IsFittingCall, IsJob}
+use Rattle.trace_text.specs.Records.{IsJob}
+use Rattle.trace_records.specs.Calls.{IsFittingCall}
 use Rattle.trace_text.specs.declared.records.Body.{Body}
 use Rattle.trace_text.specs.declared.reading.Stage.{Stage}
 use Rattle.trace_text.specs.declared.reading.Stage.TheVariants.{Running}
-use Rattle.trace_text.specs.declared.records.Job.{Job}
-use Rattle.trace_text.specs.declared.records.Job.TheVariants.{Ask, Save, Move}
-use Rattle.trace_text.specs.declared.records.Record.{Record as Written}
+use Rattle.trace_records.specs.declared.Job.{Job}
+use Rattle.trace_records.specs.declared.Job.TheVariants.{Ask, Save, Move}
+use Rattle.trace_records.specs.declared.Record.{Record as Written}
 use Rattle.trace_text.specs.declared.reading.Item.{Item}
 use Rattle.trace_text.specs.declared.reading.Item.TheVariants.{Begun, Next, End}
 use Rattle.trace_loop.specs.Progress.{Answer, Goes, Ends}
 use Rattle.trace_loop.specs.Answered.{end_of, state_after}
-use Rattle.trace_runner.specs.Records.{job_answer}
-use Rattle.trace_runner.specs.Replay.{at_start, with_board, record_answer, item_answer}
-use Rattle.trace_runner.specs.Ready.{IsRound, IsReady, JobSuits, Suits}
+use Rattle.trace_replay.specs.Records.{job_answer}
+use Rattle.trace_replay.specs.Replay.{at_start, with_board, record_answer, item_answer}
+use Rattle.trace_replay.specs.Ready.{IsRound, IsReady, JobSuits, Suits}
 use Rattle.trace_runner.specs.Sound.{IsSound}
 use Rattle.trace_runner.specs.Check.{
   kept,
@@ -32,8 +33,8 @@ use Rattle.trace_runner.specs.Check.{
 }
 use Rattle.trace_runner.specs.Checking.{Checking}
 use Rattle.trace_runner.specs.Checked.{Checked}
-use Rattle.trace_runner.specs.declared.status.Verdict.{Verdict}
-use Rattle.trace_runner.proofs.ReadyNext.{ready_next}
+use Rattle.trace_replay.specs.declared.status.Verdict.{Verdict}
+use Rattle.trace_replay.proofs.ReadyNext.{ready_next}
 use Rattle.trace_runner.proofs.Sounds.{Keeps, job_kept, read_sound, begun_sound, unchecked_sound}
 
 -- before the first line

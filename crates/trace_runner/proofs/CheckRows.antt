@@ -5,19 +5,19 @@ use Rattle.reply_text.specs.declared.ends.Reason.{Reason}
 use Rattle.reply_text.specs.declared.ends.Reason.TheVariants.{Form, Cpu, TooMany}
 use Rattle.reply_text.specs.declared.ends.Refused.TheVariants.{Invalid}
 use Rattle.trace_loop.specs.Progress.{Closing, Ends}
-use Rattle.trace_text.specs.declared.records.Job.TheVariants.{Ask, Save, Move}
-use Rattle.trace_text.specs.declared.records.Record.{Record as Written}
+use Rattle.trace_records.specs.declared.Job.TheVariants.{Ask, Save, Move}
+use Rattle.trace_records.specs.declared.Record.{Record as Written}
 use Rattle.trace_runner.specs.Check.{kept, record_checked, fault_checked, trace_of}
 use Rattle.trace_runner.specs.Checking.{Checking}
 use Rattle.trace_runner.specs.Checked.{Checked}
 use Rattle.trace_runner.specs.Checked.Checked.{Stopped}
-use Rattle.trace_text.specs.declared.records.Call.TheVariants.{ReadPage}
-use Rattle.race_phase.specs.declared.phases.End.TheVariants.{
+use Rattle.trace_records.specs.declared.Call.TheVariants.{ReadPage}
+use Rattle.trace_blocks.specs.declared.ends.End.TheVariants.{
   Finish,
   Save as BySave,
   Move as ByMove,
 }
-use Rattle.trace_runner.specs.declared.status.Verdict.TheVariants.{Stopped as StoppedAt}
+use Rattle.trace_replay.specs.declared.status.Verdict.TheVariants.{Stopped as StoppedAt}
 
 abbrev refused : ℕ → Reason → Closing Checked
 refused line reason = record { text = refused_text line (Invalid reason); end = Stopped (StoppedAt line (Invalid reason)) }

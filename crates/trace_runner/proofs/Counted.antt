@@ -5,19 +5,19 @@ use Rattle.board_types.specs.declared.parts.BoardParts.{BoardParts}
 use Rattle.board_core.specs.Pages.{after_clock}
 use Rattle.board_core.proofs.Laws.{after_access-cpus, after_access-format}
 use Rattle.race_phase.specs.Parts.{WriterParts, emptied}
-use Rattle.race_phase.specs.Phases.{next_board}
+use Rattle.trace_blocks.specs.Ends.{next_board}
 use Rattle.race_phase.specs.Tallies.{TallyParts, IsTally}
-use Rattle.race_phase.specs.declared.deliveries.Deliveries.{Deliveries}
+use Rattle.trace_blocks.specs.declared.deliveries.Deliveries.{Deliveries}
 use Rattle.race_phase.specs.declared.opening.Opening.{Opening}
-use Rattle.race_phase.specs.declared.phases.End.{End}
-use Rattle.race_phase.specs.declared.phases.End.TheVariants.{Finish, Save, Move}
+use Rattle.trace_blocks.specs.declared.ends.End.{End}
+use Rattle.trace_blocks.specs.declared.ends.End.TheVariants.{Finish, Save, Move}
 use Rattle.race_phase.specs.declared.phases.Phase.{Phase}
-use Rattle.race_phase.specs.declared.records.Record.{Record}
-use Rattle.trace_text.specs.declared.records.Call.{Call}
-use Rattle.trace_text.specs.declared.records.Call.TheVariants.{Act, ReadPage, ReadClock, ReadHv}
+use Rattle.trace_blocks.specs.declared.records.Record.{Record}
+use Rattle.trace_records.specs.declared.Call.{Call}
+use Rattle.trace_records.specs.declared.Call.TheVariants.{Act, ReadPage, ReadClock, ReadHv}
 use Rattle.trace_runner.specs.Replayed.{board_after_phases, records_after, replayed}
 use Rattle.trace_runner.specs.private.Counted.{IsCounted}
-use Rattle.trace_runner.proofs.ReadyNext.{moved-cpus, moved-format}
+use Rattle.trace_replay.proofs.ReadyNext.{moved-cpus, moved-format}
 use Rattle.trace_runner.proofs.Replayed.{replayed-record, replayed-end}
 
 -- each record and each end leaves a board of the same size

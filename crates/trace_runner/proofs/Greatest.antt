@@ -13,11 +13,11 @@ use Rattle.board_core.specs.Refusals.{refusal_of}
 use Rattle.board_core.specs.Tsc.{processor_at}
 use Rattle.board_core.specs.Time.{now_of}
 use Rattle.board_core.proofs.Laws.{after_access-greatest, refusal_of-greatest}
-use Rattle.race_phase.specs.declared.faults.Cause.TheVariants.{Access as ByAccess, Move as ByMove}
-use Rattle.race_phase.specs.Order.{at_line}
-use Rattle.race_phase.specs.Phases.{next_board, end_fault}
-use Rattle.race_phase.specs.declared.phases.End.{End}
-use Rattle.race_phase.specs.declared.phases.End.TheVariants.{Finish, Save, Move}
+use Rattle.trace_blocks.specs.declared.faults.Cause.TheVariants.{Access as ByAccess, Move as ByMove}
+use Rattle.trace_blocks.specs.Ends.{at_line}
+use Rattle.trace_blocks.specs.Ends.{next_board, end_fault}
+use Rattle.trace_blocks.specs.declared.ends.End.{End}
+use Rattle.trace_blocks.specs.declared.ends.End.TheVariants.{Finish, Save, Move}
 use Rattle.transfer.specs.Move.{
   published_below,
   moved_to,

@@ -19,15 +19,15 @@ use Rattle.trace_runner.specs.Check.{
 }
 use Rattle.trace_runner.specs.FileText.{file_text}
 use Rattle.trace_runner.specs.Race.{CheckedLeaves, RaceLeaves, AloneLeaves, check_run}
-use Rattle.trace_runner.specs.Replay.{replay, at_start}
-use Rattle.trace_runner.specs.Said.{Said, SaidAtMost}
-use Rattle.trace_runner.specs.Status.{verdict_status}
+use Rattle.trace_replay.specs.Replay.{replay, at_start}
+use Rattle.trace_replay.specs.Said.{Said, SaidAtMost}
+use Rattle.trace_replay.specs.Status.{verdict_status}
 use Rattle.trace_runner.specs.Trace.{TraceRead}
 use Rattle.trace_runner.specs.Checked.{Checked}
 use Rattle.trace_runner.specs.Checked.Checked.{Whole, Stopped}
-use Rattle.trace_runner.specs.declared.status.Status.{Status}
-use Rattle.trace_runner.specs.declared.status.Status.TheVariants.{Ok, NoMemory}
-use Rattle.trace_runner.specs.declared.status.Verdict.{Verdict}
+use Rattle.trace_replay.specs.declared.status.Status.{Status}
+use Rattle.trace_replay.specs.declared.status.Status.TheVariants.{Ok, NoMemory}
+use Rattle.trace_replay.specs.declared.status.Verdict.{Verdict}
 use Rattle.trace_runner.proofs.CheckQuiet.{silent_whole}
 use Rattle.trace_runner.proofs.Together.{replay_whole}
 

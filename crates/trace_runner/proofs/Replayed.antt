@@ -2,13 +2,13 @@
 use Rattle.std.proofs.Common.{◌≡◌, ℕ, ◌+◌, List, [], ◌∷◌, ◌++◌, refl, ap, ◌∙◌}
 use Rattle.board_types.specs.declared.parts.BoardParts.{BoardParts}
 use Rattle.board_core.specs.Pages.{after_clock}
-use Rattle.trace_text.specs.declared.records.Record.{Record as Written}
-use Rattle.race_phase.specs.Phases.{next_board}
+use Rattle.trace_records.specs.declared.Record.{Record as Written}
+use Rattle.trace_blocks.specs.Ends.{next_board}
 use Rattle.race_phase.specs.Tallies.{TallyParts, IsTally}
-use Rattle.race_phase.specs.declared.phases.End.{End}
-use Rattle.trace_text.specs.declared.records.Call.{Call}
-use Rattle.trace_text.specs.declared.records.Job.TheVariants.{Ask}
-use Rattle.race_phase.specs.declared.records.Record.{Record}
+use Rattle.trace_blocks.specs.declared.ends.End.{End}
+use Rattle.trace_records.specs.declared.Call.{Call}
+use Rattle.trace_records.specs.declared.Job.TheVariants.{Ask}
+use Rattle.trace_blocks.specs.declared.records.Record.{Record}
 use Rattle.trace_runner.specs.Check.{ended_by, kept, with_end}
 use Rattle.trace_runner.specs.Checking.{Checking}
 use Rattle.trace_runner.specs.Replayed.{board_after_phases, records_after, replayed, on_board}

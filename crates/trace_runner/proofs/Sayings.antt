@@ -3,9 +3,9 @@ use Rattle.std.proofs.Common.{◌≡◌, ℕ, List, Option, Some, Bool, sym, sub
 use Rattle.clk_units.specs.declared.NoMemory.{NoMemory}
 use Rattle.command_line.specs.Command.{command_of}
 use Rattle.command_line.specs.declared.command.Command.{Command}
-use Rattle.trace_runner.specs.Said.{Said, SaidAtMost}
+use Rattle.trace_replay.specs.Said.{Said, SaidAtMost}
 use Rattle.trace_runner.specs.Sayings.{Saying}
-use Rattle.trace_runner.specs.declared.status.Status.{Status}
+use Rattle.trace_replay.specs.declared.status.Status.{Status}
 
 -- a text that is put whole, as the saying of its command
 pub said-whole : (s saying : Saying) (result : Status) (old new : Option (List ℕ)) (shown : Type 0) → Some s ≡ Some saying

@@ -32,15 +32,15 @@ use Rattle.board_core.specs.Access.{after_access}
 use Rattle.board_core.specs.Pages.{after_clock, with_greatest}
 use Rattle.board_core.specs.Refusals.{refusal_of}
 use Rattle.board_core.proofs.Laws.{after_access-greatest, refusal_of-greatest}
-use Rattle.race_phase.specs.declared.faults.Cause.TheVariants.{Access as ByAccess, Count as ByCount}
-use Rattle.race_phase.specs.declared.deliveries.Deliveries.{Deliveries}
+use Rattle.trace_blocks.specs.declared.faults.Cause.TheVariants.{Access as ByAccess, Count as ByCount}
+use Rattle.trace_blocks.specs.declared.deliveries.Deliveries.{Deliveries}
 use Rattle.reply_text.specs.declared.ends.Refused.{Refused}
 use Rattle.trace_text.specs.declared.header.Header.{Header}
-use Rattle.trace_text.specs.declared.records.Job.{Job}
-use Rattle.trace_text.specs.declared.records.Job.TheVariants.{Ask, Save, Move}
-use Rattle.trace_text.specs.declared.records.Record.{Record as Written}
+use Rattle.trace_records.specs.declared.Job.{Job}
+use Rattle.trace_records.specs.declared.Job.TheVariants.{Ask, Save, Move}
+use Rattle.trace_records.specs.declared.Record.{Record as Written}
 use Rattle.trace_loop.specs.Progress.{Answer, Goes, Ends}
-use Rattle.trace_runner.specs.Records.{
+use Rattle.trace_replay.specs.Records.{
   refused_count,
   refused_fault,
   refused_access,
@@ -49,33 +49,42 @@ use Rattle.trace_runner.specs.Records.{
   end_answer,
   job_answer,
 }
-use Rattle.trace_runner.specs.Replay.{with_header}
-use Rattle.trace_runner.specs.Ready.{JobSuits}
-use Rattle.trace_text.specs.Records.{IsFittingCall}
+use Rattle.trace_replay.specs.Replay.{with_header}
+use Rattle.trace_replay.specs.Ready.{JobSuits}
+use Rattle.trace_records.specs.Calls.{IsFittingCall}
 use Rattle.race_phase.specs.Calls.{IsFitting}
-use Rattle.race_phase.specs.Order.{at_line, call_cause, record_fault, after_call, after_record, after_records, records_fault}
-use Rattle.race_phase.specs.Phases.{IsPhase, IsEnd, next_board, end_fault}
-use Rattle.race_phase.specs.declared.faults.Fault.{Fault}
+use Rattle.race_phase.specs.Order.{
+  call_cause,
+  record_fault,
+  after_call,
+  after_record,
+  after_records,
+  records_fault,
+}
+use Rattle.trace_blocks.specs.Ends.{at_line}
+use Rattle.race_phase.specs.Phases.{IsPhase}
+use Rattle.trace_blocks.specs.Ends.{IsEnd, next_board, end_fault}
+use Rattle.trace_blocks.specs.declared.faults.Fault.{Fault}
 use Rattle.trace_runner.specs.Check.{unchecked, with_end, ended_by, kept, read_on}
 use Rattle.trace_runner.specs.Checking.{Checking}
 use Rattle.trace_runner.specs.Free.{after_phases, IsFree}
 use Rattle.trace_runner.specs.Sound.{IsSound}
 use Rattle.race_phase.specs.declared.phases.Phase.{Phase}
-use Rattle.trace_text.specs.declared.records.Call.{Call}
-use Rattle.trace_text.specs.declared.records.Call.TheVariants.{Act, ReadPage, ReadClock, ReadHv}
-use Rattle.race_phase.specs.declared.phases.End.{End}
-use Rattle.race_phase.specs.declared.phases.End.TheVariants.{
+use Rattle.trace_records.specs.declared.Call.{Call}
+use Rattle.trace_records.specs.declared.Call.TheVariants.{Act, ReadPage, ReadClock, ReadHv}
+use Rattle.trace_blocks.specs.declared.ends.End.{End}
+use Rattle.trace_blocks.specs.declared.ends.End.TheVariants.{
   Finish,
   Save as BySave,
   Move as ByMove,
 }
-use Rattle.race_phase.specs.declared.records.Record.{Record}
-use Rattle.trace_runner.specs.declared.replay.Replay.{Replay}
-use Rattle.trace_runner.specs.declared.status.Verdict.{Verdict}
+use Rattle.trace_blocks.specs.declared.records.Record.{Record}
+use Rattle.trace_replay.specs.declared.replay.Replay.{Replay}
+use Rattle.trace_replay.specs.declared.status.Verdict.{Verdict}
 use Rattle.race_phase.proofs.Checked.{or_both, after_records-snoc, records_fault-snoc}
 use Rattle.trace_runner.proofs.FileOrder.{after_phases-snoc, trace_fault-snoc}
 use Rattle.trace_runner.proofs.Greatest.{next_board-greatest, end_fault-greatest}
-use Rattle.trace_runner.proofs.ReadyNext.{Same, same_job}
+use Rattle.trace_replay.proofs.ReadyNext.{Same, same_job}
 
 -- a count that isn't refused has a time
 timed : (b : BoardParts) (h : ℕ) → refused_count b h ≡ None → time_fault b.anchor h ≡ None

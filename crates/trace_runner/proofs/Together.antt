@@ -34,7 +34,7 @@ use Rattle.board_types.specs.declared.parts.BoardParts.{BoardParts}
 use Rattle.board_core.specs.Hv.{hv_reply}
 use Rattle.board_core.specs.Access.{after_access, reply_of}
 use Rattle.board_core.specs.Pages.{page_reply, clock_reply, after_clock}
-use Rattle.race_phase.specs.declared.deliveries.Deliveries.{Deliveries}
+use Rattle.trace_blocks.specs.declared.deliveries.Deliveries.{Deliveries}
 use Rattle.reply_text.specs.Text.{page_text, clock_text, hv_text}
 use Rattle.reply_text.specs.declared.ends.Refused.{Refused}
 use Rattle.reply_text.specs.declared.ends.Refused.TheVariants.{Invalid}
@@ -45,9 +45,9 @@ use Rattle.trace_text.specs.declared.reading.Item.TheVariants.{Begun, Next, End}
 use Rattle.trace_text.specs.declared.reading.ReadingParts.{ReadingParts}
 use Rattle.trace_text.specs.declared.reading.Stage.{Stage}
 use Rattle.trace_text.specs.declared.reading.Stage.TheVariants.{Opening, Heading, Running}
-use Rattle.trace_text.specs.declared.records.Job.{Job}
-use Rattle.trace_text.specs.declared.records.Job.TheVariants.{Ask, Save, Move}
-use Rattle.trace_text.specs.declared.records.Record.{Record as Written}
+use Rattle.trace_records.specs.declared.Job.{Job}
+use Rattle.trace_records.specs.declared.Job.TheVariants.{Ask, Save, Move}
+use Rattle.trace_records.specs.declared.Record.{Record as Written}
 use Rattle.trace_loop.proofs.Progresses.{replay-ended}
 use Rattle.trace_loop.specs.Progress.{
   limit_of,
@@ -66,19 +66,19 @@ use Rattle.trace_loop.specs.Progress.{
   ran,
   finished,
 }
-use Rattle.race_phase.specs.declared.records.Answer.TheVariants.{Acted}
-use Rattle.race_phase.specs.Blocks.{block_of}
-use Rattle.race_phase.specs.Phases.{next_board, end_fault, end_text}
-use Rattle.race_phase.specs.declared.faults.Fault.{Fault}
-use Rattle.race_phase.specs.declared.phases.End.{End as PhaseEnd}
-use Rattle.race_phase.specs.declared.phases.End.TheVariants.{
+use Rattle.trace_blocks.specs.declared.records.Answer.TheVariants.{Acted}
+use Rattle.trace_blocks.specs.Blocks.{block_of}
+use Rattle.trace_blocks.specs.Ends.{next_board, end_fault, end_text}
+use Rattle.trace_blocks.specs.declared.faults.Fault.{Fault}
+use Rattle.trace_blocks.specs.declared.ends.End.{End as PhaseEnd}
+use Rattle.trace_blocks.specs.declared.ends.End.TheVariants.{
   Finish,
   Save as BySave,
   Move as ByMove,
 }
-use Rattle.trace_text.specs.declared.records.Call.{Call}
-use Rattle.trace_text.specs.declared.records.Call.TheVariants.{Act, ReadPage, ReadClock, ReadHv}
-use Rattle.race_phase.specs.declared.records.Record.{Record}
+use Rattle.trace_records.specs.declared.Call.{Call}
+use Rattle.trace_records.specs.declared.Call.TheVariants.{Act, ReadPage, ReadClock, ReadHv}
+use Rattle.trace_blocks.specs.declared.records.Record.{Record}
 use Rattle.trace_runner.specs.Check.{
   kept,
   with_end,
@@ -100,8 +100,8 @@ use Rattle.trace_runner.specs.Check.{
 }
 use Rattle.trace_runner.specs.Checking.{Checking}
 use Rattle.trace_runner.specs.FileText.{answer_on, records_text, phase_text, phases_text, file_text}
-use Rattle.trace_runner.specs.Records.{stops, answer_unless, ended_answer, job_answer}
-use Rattle.trace_runner.specs.Replay.{
+use Rattle.trace_replay.specs.Records.{stops, answer_unless, ended_answer, job_answer}
+use Rattle.trace_replay.specs.Replay.{
   at_start,
   ended,
   with_board,
@@ -118,10 +118,10 @@ use Rattle.race_phase.specs.declared.phases.Phase.{Phase}
 use Rattle.trace_runner.specs.Trace.{TraceRead}
 use Rattle.trace_runner.specs.Checked.{Checked}
 use Rattle.trace_runner.specs.Checked.Checked.{Whole, Stopped}
-use Rattle.trace_runner.specs.declared.replay.Replay.{Replay}
-use Rattle.trace_runner.specs.declared.status.Verdict.{Verdict}
-use Rattle.trace_runner.specs.declared.status.Verdict.TheVariants.{Done}
-use Rattle.trace_runner.proofs.ReaderSteps.{HoldsFrom, taken_holds}
+use Rattle.trace_replay.specs.declared.replay.Replay.{Replay}
+use Rattle.trace_replay.specs.declared.status.Verdict.{Verdict}
+use Rattle.trace_replay.specs.declared.status.Verdict.TheVariants.{Done}
+use Rattle.trace_replay.proofs.ReaderSteps.{HoldsFrom, taken_holds}
 use Rattle.trace_runner.proofs.Replayed.{replayed-record, replayed-end}
 
 -- one record more, and one phase more

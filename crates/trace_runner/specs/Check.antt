@@ -25,9 +25,9 @@ use Rattle.trace_text.specs.Lines.{taken, after_line}
 use Rattle.trace_text.specs.declared.faults.RecordFault.{RecordFault}
 use Rattle.trace_text.specs.declared.reading.Item.{Item}
 use Rattle.trace_text.specs.declared.reading.Item.TheVariants.{Skipped, Part, Begun, Next, End}
-use Rattle.trace_text.specs.declared.records.Job.TheVariants.{Ask, Save, Move}
-use Rattle.trace_text.specs.declared.records.Job.{Job}
-use Rattle.trace_text.specs.declared.records.Record.{Record as Written}
+use Rattle.trace_records.specs.declared.Job.TheVariants.{Ask, Save, Move}
+use Rattle.trace_records.specs.declared.Job.{Job}
+use Rattle.trace_records.specs.declared.Record.{Record as Written}
 use Rattle.trace_loop.specs.Progress.{
   Closing,
   Answer,
@@ -38,23 +38,23 @@ use Rattle.trace_loop.specs.Progress.{
   after_bytes,
   finished,
 }
-use Rattle.trace_runner.specs.Ready.{IsReady}
-use Rattle.trace_runner.specs.Records.{stops}
-use Rattle.trace_runner.specs.Replay.{at_start, record_answer, closing_of, with_header}
+use Rattle.trace_replay.specs.Ready.{IsReady}
+use Rattle.trace_replay.specs.Records.{stops}
+use Rattle.trace_replay.specs.Replay.{at_start, record_answer, closing_of, with_header}
 use Rattle.trace_runner.specs.Checking.{Checking}
 use Rattle.trace_runner.specs.Sound.{IsSound}
 use Rattle.race_phase.specs.declared.phases.Phase.{Phase}
 use Rattle.trace_runner.specs.Trace.{TraceRead}
-use Rattle.race_phase.specs.declared.phases.End.{End as PhaseEnd}
-use Rattle.race_phase.specs.declared.phases.End.TheVariants.{
+use Rattle.trace_blocks.specs.declared.ends.End.{End as PhaseEnd}
+use Rattle.trace_blocks.specs.declared.ends.End.TheVariants.{
   Finish,
   Save as BySave,
   Move as ByMove,
 }
 use Rattle.trace_runner.specs.Checked.{Checked}
 use Rattle.trace_runner.specs.Checked.Checked.{Whole, Stopped}
-use Rattle.trace_runner.specs.declared.replay.Replay.{Replay}
-use Rattle.trace_runner.specs.declared.status.Verdict.{Verdict}
+use Rattle.trace_replay.specs.declared.replay.Replay.{Replay}
+use Rattle.trace_replay.specs.declared.status.Verdict.{Verdict}
 
 -- a replay of which no record was checked yet
 abbrev pub unchecked : Replay → Checking

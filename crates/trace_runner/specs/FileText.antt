@@ -4,15 +4,15 @@ use Rattle.board_types.specs.declared.parts.BoardParts.{BoardParts}
 use Rattle.board_core.specs.Access.{reply_of}
 use Rattle.board_core.specs.Pages.{page_reply, clock_reply}
 use Rattle.board_core.specs.Hv.{hv_reply}
-use Rattle.race_phase.specs.declared.deliveries.Deliveries.{Deliveries}
-use Rattle.race_phase.specs.Blocks.{block_of}
-use Rattle.race_phase.specs.Phases.{next_board, end_text}
-use Rattle.race_phase.specs.declared.records.Answer.{Answer}
-use Rattle.race_phase.specs.declared.records.Answer.TheVariants.{Acted, PageIs, ClockIs, HvIs}
-use Rattle.trace_text.specs.declared.records.Call.{Call}
-use Rattle.trace_text.specs.declared.records.Call.TheVariants.{Act, ReadPage, ReadClock, ReadHv}
-use Rattle.race_phase.specs.declared.records.Record.{Record}
-use Rattle.trace_runner.specs.Replay.{ended}
+use Rattle.trace_blocks.specs.declared.deliveries.Deliveries.{Deliveries}
+use Rattle.trace_blocks.specs.Blocks.{block_of}
+use Rattle.trace_blocks.specs.Ends.{next_board, end_text}
+use Rattle.trace_blocks.specs.declared.records.Answer.{Answer}
+use Rattle.trace_blocks.specs.declared.records.Answer.TheVariants.{Acted, PageIs, ClockIs, HvIs}
+use Rattle.trace_records.specs.declared.Call.{Call}
+use Rattle.trace_records.specs.declared.Call.TheVariants.{Act, ReadPage, ReadClock, ReadHv}
+use Rattle.trace_blocks.specs.declared.records.Record.{Record}
+use Rattle.trace_replay.specs.Replay.{ended}
 use Rattle.trace_runner.specs.Replayed.{board_after_phases, records_after, replayed}
 use Rattle.race_phase.specs.declared.phases.Phase.{Phase}
 use Rattle.trace_runner.specs.Trace.{TraceRead}

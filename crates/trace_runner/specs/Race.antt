@@ -9,15 +9,15 @@ use Rattle.trace_loop.specs.Outcome.{Run, run_of}
 use Rattle.race_phase.specs.Phases.{race_text}
 use Rattle.trace_runner.specs.Check.{check_after, check}
 use Rattle.trace_runner.specs.Checking.{Checking}
-use Rattle.trace_runner.specs.Replay.{ended}
-use Rattle.trace_runner.specs.Said.{Said, SaidAtMost}
-use Rattle.trace_runner.specs.Status.{verdict_status, Fails}
+use Rattle.trace_replay.specs.Replay.{ended}
+use Rattle.trace_replay.specs.Said.{Said, SaidAtMost}
+use Rattle.trace_replay.specs.Status.{verdict_status, Fails}
 use Rattle.trace_runner.specs.Trace.{TraceRead}
 use Rattle.trace_runner.specs.Checked.{Checked}
 use Rattle.trace_runner.specs.Checked.Checked.{Whole, Stopped}
-use Rattle.trace_runner.specs.declared.status.Status.{Status}
-use Rattle.trace_runner.specs.declared.status.Status.TheVariants.{Ok, NoMemory}
-use Rattle.trace_runner.specs.declared.status.Verdict.{Verdict}
+use Rattle.trace_replay.specs.declared.status.Status.{Status}
+use Rattle.trace_replay.specs.declared.status.Status.TheVariants.{Ok, NoMemory}
+use Rattle.trace_replay.specs.declared.status.Verdict.{Verdict}
 
 -- the run of a check over an input
 abbrev pub check_run : Bool → List ℕ → Input → Input → Run Checking Checked

@@ -10,14 +10,14 @@ use Rattle.board_core.specs.Refusals.{refusal_of}
 use Rattle.transfer.specs.Move.{move_fault, moved_to}
 use Rattle.transfer.specs.declared.outcome.MoveFault.{MoveFault}
 use Rattle.reply_text.specs.declared.ends.Refused.{Refused}
-use Rattle.trace_text.specs.declared.records.Job.{Job}
-use Rattle.trace_text.specs.declared.records.Job.TheVariants.{Ask, Save, Move}
-use Rattle.race_phase.specs.Phases.{next_board}
-use Rattle.trace_text.specs.declared.records.Call.{Call}
-use Rattle.trace_text.specs.declared.records.Call.TheVariants.{Act, ReadPage, ReadClock, ReadHv}
-use Rattle.race_phase.specs.declared.records.Record.{Record}
+use Rattle.trace_records.specs.declared.Job.{Job}
+use Rattle.trace_records.specs.declared.Job.TheVariants.{Ask, Save, Move}
+use Rattle.trace_blocks.specs.Ends.{next_board}
+use Rattle.trace_records.specs.declared.Call.{Call}
+use Rattle.trace_records.specs.declared.Call.TheVariants.{Act, ReadPage, ReadClock, ReadHv}
+use Rattle.trace_blocks.specs.declared.records.Record.{Record}
 use Rattle.trace_runner.specs.Checking.{Checking}
-use Rattle.trace_runner.specs.Records.{refused_access, refused_count, refused_move}
+use Rattle.trace_replay.specs.Records.{refused_access, refused_count, refused_move}
 use Rattle.race_phase.specs.declared.phases.Phase.{Phase}
 
 -- the board after a call that is answered

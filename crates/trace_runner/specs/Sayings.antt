@@ -11,12 +11,12 @@ use Rattle.command_line.specs.declared.command.Command.TheVariants.{
   Unknown,
 }
 use Rattle.trace_gen.specs.Text.{gen_text}
-use Rattle.trace_runner.specs.Soak.{soak_of}
+use Rattle.trace_replay.specs.Soak.{soak_of}
 use Rattle.trace_runner.specs.declared.texts.TheConstants.{USAGE, VERSION}
 use Rattle.trace_runner.specs.Text.{help_text}
-use Rattle.trace_runner.specs.Status.{verdict_status}
-use Rattle.trace_runner.specs.declared.status.Status.{Status}
-use Rattle.trace_runner.specs.declared.status.Status.TheVariants.{Ok, Usage}
+use Rattle.trace_replay.specs.Status.{verdict_status}
+use Rattle.trace_replay.specs.declared.status.Status.{Status}
+use Rattle.trace_replay.specs.declared.status.Status.TheVariants.{Ok, Usage}
 
 -- whether a command reads a trace from the source
 abbrev pub reads_trace : Command → Bool

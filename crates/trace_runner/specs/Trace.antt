@@ -1,7 +1,7 @@
 -- A trace that was read whole.
 use Rattle.std.specs.Prelude.{Bool, List}
 use Rattle.board_types.specs.declared.parts.BoardParts.{BoardParts}
-use Rattle.race_phase.specs.declared.deliveries.Deliveries.{Deliveries}
+use Rattle.trace_blocks.specs.declared.deliveries.Deliveries.{Deliveries}
 use Rattle.race_phase.specs.declared.phases.Phase.{Phase}
 
 -- the board that the trace begins with, who gets the rises of its lines, its phases, and whether

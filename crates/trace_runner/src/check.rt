@@ -20,10 +20,10 @@ ghost use Rattle.trace_text.specs.Lines.{
   IsRecordAt,
   end_fault as at_end,
 };
-ghost use Rattle.trace_text.specs.Records.{IsFittingCall};
-ghost use Rattle.race_phase.specs.Phases.{IsEnd, next_board, end_fault};
+ghost use Rattle.trace_records.specs.Calls.{IsFittingCall};
+ghost use Rattle.trace_blocks.specs.Ends.{IsEnd, next_board, end_fault};
 ghost use Rattle.race_phase.specs.Tallies.{IsTally};
-ghost use Rattle.trace_runner.specs.Ready.{Suits};
+ghost use Rattle.trace_replay.specs.Ready.{Suits};
 ghost use Rattle.trace_runner.specs.Replayed.{
   board_after_phases,
   job_after,
@@ -31,7 +31,7 @@ ghost use Rattle.trace_runner.specs.Replayed.{
   refused_call,
   refused_job,
 };
-ghost use Rattle.trace_runner.specs.Replay.{with_header, at_start};
+ghost use Rattle.trace_replay.specs.Replay.{with_header, at_start};
 ghost use Rattle.trace_runner.specs.Sound.{IsSound};
 ghost use Rattle.trace_runner.specs.Check.{
   with_end,
@@ -44,15 +44,15 @@ ghost use Rattle.trace_runner.specs.Check.{
 };
 
 use crate::counting::{admits, count_call, count_end, refused_job};
-use crate::deliveries::deliveries_of;
-use crate::replay::{no_routes, opening};
 use crate::trace::Trace;
 use board_core::BoardState;
 use clk_units::NoMemory;
-use race_phase::{Deliveries, End, Feed, Feeding, NewHost, Record, Tally, Writer};
+use race_phase::{Feed, Feeding, Tally, Writer};
 use reply_text::Refused;
 use std::alloc::Global;
 use std::marker::Model;
+use trace_blocks::{Deliveries, End, NewHost, Record};
+use trace_replay::{deliveries_of, no_routes, opening};
 use trace_text::{Begin, Call, Header, Item, Job, Reading, Record as Written, RecordFault};
 
 /// How many records a trace may have whose processors run on threads of their own.

@@ -2,7 +2,7 @@
 ghost use Rattle.std.specs.Prelude.{◌≡◌, ◌<◌, ◌≤◌, ◌+◌, ◌^◌, ◌++◌, None, IfOk, OnOk};
 ghost use Rattle.trace_loop.specs.Answered.{IsAnswered};
 ghost use Rattle.trace_text.specs.Lines.{taken, record_in, record_of_item};
-ghost use Rattle.trace_runner.specs.Ready.{Suits};
+ghost use Rattle.trace_replay.specs.Ready.{Suits};
 ghost use Rattle.trace_runner.specs.Sound.{IsSound};
 ghost use Rattle.trace_runner.specs.Check.{
   too_many,
@@ -16,12 +16,11 @@ ghost use Rattle.trace_runner.specs.Check.{
   has_form,
   unchecked,
 };
-ghost use Rattle.trace_runner.specs.Records.{stops};
-ghost use Rattle.trace_runner.specs.Replay.{at_start};
-ghost use Rattle.trace_runner.specs.private.Closed.{IsClosedBy};
+ghost use Rattle.trace_replay.specs.Records.{stops};
+ghost use Rattle.trace_replay.specs.Replay.{at_start};
+ghost use Rattle.trace_replay.specs.private.Closed.{IsClosedBy};
 
 use crate::check::Check;
-use crate::status::stop;
 use crate::trace::Checked;
 use clk_units::NoMemory;
 use race_phase::{Feed, Feeding};
@@ -29,6 +28,7 @@ use reply_text::{Reason, Refused};
 use std::alloc::Global;
 use std::marker::Model;
 use trace_loop::Answerer;
+use trace_replay::stop;
 use trace_text::{Item, Job, Record as Written, RecordFault};
 
 /// A check, with a place for the record that a line is: it is read into that place and handed on by reference, so that

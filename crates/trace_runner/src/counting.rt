@@ -3,12 +3,12 @@ ghost use Rattle.std.specs.Prelude.{◌≡◌, ◌<◌, None};
 ghost use Rattle.std.specs.Bool.{OnTrue};
 ghost use Rattle.board_types.specs.declared.parts.BoardParts.{BoardParts};
 ghost use Rattle.board_core.specs.Refusals.{refusal_of};
-ghost use Rattle.trace_text.specs.Records.{IsFittingCall};
-ghost use Rattle.race_phase.specs.Phases.{IsEnd, next_board, end_fault};
+ghost use Rattle.trace_records.specs.Calls.{IsFittingCall};
+ghost use Rattle.trace_blocks.specs.Ends.{IsEnd, next_board, end_fault};
 ghost use Rattle.race_phase.specs.Tallies.{IsTally};
-ghost use Rattle.trace_runner.specs.Ready.{Suits};
+ghost use Rattle.trace_replay.specs.Ready.{Suits};
 ghost use Rattle.trace_text.specs.declared.reading.Item.TheVariants.{Next};
-ghost use Rattle.trace_runner.specs.Records.{refused_count};
+ghost use Rattle.trace_replay.specs.Records.{refused_count};
 ghost use Rattle.trace_runner.specs.Replayed.{
   board_after_phases,
   by_refusal,
@@ -17,10 +17,11 @@ ghost use Rattle.trace_runner.specs.Replayed.{
   refused_job,
 };
 
-use crate::status::{refused_access, refused_move, refused_time};
 use board_core::Access;
-use race_phase::{End, Tally};
+use race_phase::Tally;
 use reply_text::Refused;
+use trace_blocks::End;
+use trace_replay::{refused_access, refused_move, refused_time};
 use trace_text::{Call, Job, Record};
 
 /// Whether a record is one that ends no phase, and each board of these counts takes it. No cause of a refusal is made.

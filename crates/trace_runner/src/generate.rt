@@ -3,11 +3,11 @@ ghost use Rattle.command_line.specs.Command.{IsSize};
 ghost use Rattle.trace_gen.specs.Text.{gen_text};
 ghost use Rattle.trace_loop.specs.Outcome.{IsSaid};
 
-use crate::status::Status;
 use board_io::{Failed, Sink};
 use command_line::Size;
 use trace_gen::Generator;
 use trace_loop::put_all;
+use trace_replay::Status;
 
 /// How many bytes are put at a time.
 const PIECE: usize = 4096;

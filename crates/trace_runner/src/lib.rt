@@ -41,21 +41,11 @@
 mod check;
 mod checker;
 mod counting;
-mod deliveries;
 mod generate;
-mod kept;
-mod moves;
 mod program;
 mod race;
-mod records;
-mod replay;
-mod soak;
-mod status;
 mod texts;
 mod trace;
 
 pub use program::run;
-pub use status::Status;
-
-#[cfg(test)]
-mod tests;
+pub use trace_replay::Status;

@@ -19,25 +19,22 @@ ghost use Rattle.board_io.specs.Faults.{Rose};
 ghost use Rattle.command_line.specs.Command.{command_of, HasSize};
 ghost use Rattle.command_line.specs.declared.command.Command.TheVariants.{Replay as ReplayOf, Race as RaceOf};
 ghost use Rattle.trace_loop.specs.Text.{memory_fault_text};
-ghost use Rattle.trace_runner.specs.Said.{PutsOnly, Said, SaidAtMost};
+ghost use Rattle.trace_replay.specs.Said.{PutsOnly, Said, SaidAtMost};
 ghost use Rattle.trace_runner.specs.Sayings.{
   Saying,
   reads_trace,
   saying_of,
 };
-ghost use Rattle.trace_runner.specs.Status.{Shown};
-ghost use Rattle.trace_runner.specs.Replay.{progress_after, replay, replay_run};
+ghost use Rattle.trace_replay.specs.Status.{Shown};
+ghost use Rattle.trace_replay.specs.Replay.{progress_after, replay, replay_run};
 ghost use Rattle.trace_runner.specs.Check.{check_after, check};
 ghost use Rattle.trace_runner.specs.Race.{RaceLeaves, AloneLeaves, check_run};
 ghost use Rattle.trace_runner.specs.Trace.{TraceRead};
 ghost use Rattle.trace_runner.specs.Checked.Checked.{Whole};
-ghost use Rattle.trace_runner.specs.WholeLines.{IsWholeLines};
+ghost use Rattle.trace_replay.specs.WholeLines.{IsWholeLines};
 
 use crate::generate::generate;
 use crate::race::race;
-use crate::replay::Replay;
-use crate::soak::run_soak;
-use crate::status::{Status, status_of};
 use crate::texts::{USAGE, VERSION, help};
 use board_io::{Gate, Sink, Source};
 use command_line::{Command, command_of};
@@ -45,6 +42,7 @@ use std::alloc::Global;
 use std::sync::Wait;
 use std::thread::Threads;
 use trace_loop::{MEMORY_FAULT, answer_lines, say};
+use trace_replay::{Replay, Status, run_soak, status_of};
 
 /// Runs the program on its words (those after its name): the job `replay` reads a trace from `source`, and writes
 /// what it answers to `sink`, in pieces as large as the source's.
@@ -70,7 +68,7 @@ use trace_loop::{MEMORY_FAULT, answer_lines, say};
 /// - `SourceFault`, `SinkFault`: only where that end counted a fault in this call. What was written is then the blocks
 ///   of all whole lines given and `fault source`, or a prefix of what would be printed.
 /// - `NoMemory`: memory ran out; what was written is a prefix of what would be printed, and `fault memory`.
-#[tactic(auto, using(crate::proofs::WholeLines::progress_whole, crate::proofs::CheckQuiet::silent_going))]
+#[tactic(auto, using(trace_replay::proofs::WholeLines::progress_whole, crate::proofs::CheckQuiet::silent_going))]
 pub fn run<R: Threads + Wait + Sync, S: Source, K: Sink, G: Gate + Sync>(
     rt: &R,
     alloc: Global,

@@ -9,13 +9,11 @@ ghost use Rattle.trace_loop.specs.Outcome.{KeepsEnds, Leaves};
 ghost use Rattle.trace_runner.specs.Check.{check_answer, check_closing, unchecked};
 ghost use Rattle.trace_runner.specs.FileText.{file_text};
 ghost use Rattle.trace_runner.specs.Race.{RacePrints, CheckedLeaves};
-ghost use Rattle.trace_runner.specs.Replay.{at_start};
-ghost use Rattle.trace_runner.specs.Said.{PutsOnly, SaidAtMost};
-ghost use Rattle.trace_runner.specs.Status.{verdict_status};
+ghost use Rattle.trace_replay.specs.Replay.{at_start};
+ghost use Rattle.trace_replay.specs.Said.{PutsOnly, SaidAtMost};
+ghost use Rattle.trace_replay.specs.Status.{verdict_status};
 
 use crate::checker::Checker;
-use crate::replay::end;
-use crate::status::{Status, verdict_status};
 use crate::trace::{CheckEnd, Checked, Trace};
 use board_io::{Gate, Sink, Source};
 use race_phase::{Feed, Feeding, Halt, Ran, Row, Text, run_race};
@@ -24,6 +22,7 @@ use std::marker::Brand;
 use std::sync::Wait;
 use std::thread::{Threads, join_mut};
 use trace_loop::{Ended, MEMORY_FAULT, answer_lines, say, say_each};
+use trace_replay::{Status, end, verdict_status};
 
 /// Reads a trace and checks it in file order, while each of its phases runs by one thread a processor; then it writes what
 /// they answer. A line that is refused is written alone. A trace of one processor, of which no line is refused, prints

@@ -3,10 +3,11 @@ ghost use Rattle.std.specs.Prelude.{◌≡◌};
 ghost use Rattle.trace_runner.specs.Checked.Checked.{Whole, Stopped};
 ghost use Rattle.trace_runner.specs.private.CheckEnd.{checked_of};
 
-use crate::status::Verdict;
 use board_core::BoardState;
-use race_phase::{Deliveries, Feeding, Written};
+use race_phase::{Feeding, Written};
 use std::marker::Model;
+use trace_blocks::Deliveries;
+use trace_replay::Verdict;
 
 /// A trace that was read to its end. No record of it is refused in file order.
 #[derive(Drop)]

@@ -43,7 +43,7 @@ use Rattle.trace_text.specs.Lines.{is_skipped, stepped, step_of, Step, next, ite
 use Rattle.trace_text.specs.private.Lines.{IsNoRecord}
 use Rattle.reply_text.specs.declared.ends.Reason.{Reason}
 use Rattle.reply_text.specs.declared.ends.Reason.TheVariants.{TooLong}
-use Rattle.trace_text.specs.declared.records.Record.{Record}
+use Rattle.trace_records.specs.declared.Record.{Record}
 use Rattle.trace_text.specs.declared.records.Body.{Body}
 use Rattle.trace_text.specs.declared.reading.Item.TheVariants.{Skipped, End}
 use Rattle.trace_text.specs.declared.reading.Stage.{Stage}

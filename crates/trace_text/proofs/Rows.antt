@@ -30,17 +30,18 @@ use Rattle.tick_policy.specs.declared.parts.Policy.TheVariants.{Discard, Delay, 
 use Rattle.trace_loop.specs.Progress.{limit_of}
 use Rattle.trace_text.specs.Tokens.{words_of, starts, number_in, decimal_in, decimal_past, hex_in, dec, hex, byte, khz}
 use Rattle.trace_text.specs.Records.{record_of, job_of, body_after}
-use Rattle.trace_text.specs.Header.{first_line, header_line, head_of, place_of_line}
+use Rattle.trace_text.specs.Header.{first_line, header_line, head_of}
+use Rattle.irq_edges.specs.Lines.{place_of_line}
 use Rattle.trace_text.specs.State.{restored}
 use Rattle.trace_text.specs.Lines.{stepped, item_in, taken, after_line, at_start, end_fault}
 use Rattle.reply_text.specs.declared.ends.Reason.{Reason}
 use Rattle.reply_text.specs.declared.ends.Reason.TheVariants.{Form, Steal, Cpu, CounterFell, StateBytes, TooLong, NoEnd}
 use Rattle.trace_text.specs.declared.faults.RecordFault.{RecordFault}
 use Rattle.trace_text.specs.declared.records.Body.{Body}
-use Rattle.trace_text.specs.declared.records.Call.TheVariants.{Act, ReadPage, ReadClock, ReadHv}
-use Rattle.trace_text.specs.declared.records.Job.{Job}
-use Rattle.trace_text.specs.declared.records.Job.TheVariants.{Ask, Save, Move}
-use Rattle.trace_text.specs.declared.records.Record.{Record}
+use Rattle.trace_records.specs.declared.Call.TheVariants.{Act, ReadPage, ReadClock, ReadHv}
+use Rattle.trace_records.specs.declared.Job.{Job}
+use Rattle.trace_records.specs.declared.Job.TheVariants.{Ask, Save, Move}
+use Rattle.trace_records.specs.declared.Record.{Record}
 use Rattle.trace_text.specs.declared.header.Head.{Head}
 use Rattle.trace_text.specs.declared.header.Begin.TheVariants.{Fresh, Saved}
 use Rattle.trace_text.specs.declared.reading.Item.{Item}

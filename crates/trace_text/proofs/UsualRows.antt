@@ -8,9 +8,9 @@ use Rattle.trace_text.specs.Tokens.{words_of, number_in, decimal_in, hex_in}
 use Rattle.trace_text.specs.Records.{job_of, in_row, out_row, line_row, page_row, hr_row, hw_row}
 use Rattle.trace_text.specs.private.Reads.{IsJobOf, acting}
 use Rattle.trace_text.specs.declared.records.Body.{Body}
-use Rattle.trace_text.specs.declared.records.Call.TheVariants.{Act, ReadClock}
-use Rattle.trace_text.specs.declared.records.Job.{Job}
-use Rattle.trace_text.specs.declared.records.Job.TheVariants.{Ask}
+use Rattle.trace_records.specs.declared.Call.TheVariants.{Act, ReadClock}
+use Rattle.trace_records.specs.declared.Job.{Job}
+use Rattle.trace_records.specs.declared.Job.TheVariants.{Ask}
 
 pub in_first : (body : Body) (m : List ℕ) → job_of body (words_of (codes "in " ++ m)) ≡ in_row body (words_of m)
 unfolding job_of words_of

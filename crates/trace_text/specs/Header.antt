@@ -2,7 +2,6 @@
 use Rattle.std.specs.Prelude.{
   ℕ,
   ◌+◌,
-  ◌-◌,
   ◌==◌,
   nat_lt,
   nat_le,
@@ -31,7 +30,7 @@ use Rattle.board_types.specs.Setup.{IsSetup, processors_of, setup_by_default}
 use Rattle.board_types.specs.declared.setup.Setup.{Setup}
 use Rattle.board_types.specs.declared.setup.TheConstants.{LAST_FORMAT}
 use Rattle.edge_hooks.specs.declared.deliveries.Delivery.{Delivery}
-use Rattle.irq_edges.specs.Lines.{is_line}
+use Rattle.irq_edges.specs.Lines.{is_line, place_of_line}
 use Rattle.tick_policy.specs.declared.parts.Policy.{Policy}
 use Rattle.tick_policy.specs.declared.parts.Policy.TheVariants.{Discard, Delay, Slew}
 use Rattle.trace_text.specs.Tokens.{dec, byte, khz, dec_within, starts, such_that}
@@ -142,10 +141,6 @@ abbrev pub state_row : Head → ℕ → List (List ℕ) → Result Head Reason
 state_row head format =
     place hexes (λ bytes.
     last (and_then (λ b. Ok (record head { row = STATE_ROW; begin = Saved b })) (restored format bytes)))
-
--- the place of a line among the six, by its number
-abbrev pub place_of_line : ℕ → ℕ
-place_of_line line = if line == 0 then 0 else if line == 8 then 1 else line - 18
 
 -- a line's route goes to a processor that is there
 abbrev pub routed : Head → ℕ → ℕ → ℕ → Result Head Reason

@@ -38,7 +38,7 @@ use Rattle.reply_text.specs.declared.ends.Reason.{Reason}
 use Rattle.reply_text.specs.declared.ends.Reason.TheVariants.{Form, TooLong, NoEnd}
 use Rattle.trace_text.specs.declared.faults.RecordFault.{RecordFault}
 use Rattle.trace_text.specs.declared.header.Head.{Head}
-use Rattle.trace_text.specs.declared.records.Record.{Record}
+use Rattle.trace_records.specs.declared.Record.{Record}
 use Rattle.trace_text.specs.declared.records.Body.{Body}
 use Rattle.trace_text.specs.declared.reading.Item.{Item}
 use Rattle.trace_text.specs.declared.reading.Item.TheVariants.{

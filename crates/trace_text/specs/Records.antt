@@ -4,7 +4,6 @@ use Rattle.std.specs.Prelude.{
   ◌==◌,
   nat_lt,
   nat_le,
-  true,
   List,
   [],
   ◌∷◌,
@@ -18,7 +17,6 @@ use Rattle.std.specs.Prelude.{
   slice_index,
   slice_set,
   replicate,
-  ◌≡◌,
   ◌<◌,
   ◌≤◌,
 }
@@ -57,16 +55,15 @@ use Rattle.trace_text.specs.Tokens.{
   starts,
   such_that,
 }
+use Rattle.trace_records.specs.Calls.{IsFittingCall}
 use Rattle.trace_text.specs.Rows.{and_then, place, last, Row, row, by_table}
 use Rattle.reply_text.specs.declared.ends.Reason.{Reason}
 use Rattle.reply_text.specs.declared.ends.Reason.TheVariants.{Form, Steal, Cpu, CounterFell}
-use Rattle.trace_text.specs.declared.records.Call.{Call}
-use Rattle.trace_text.specs.declared.records.Call.TheVariants.{Act, ReadPage, ReadClock, ReadHv}
-use Rattle.trace_text.specs.declared.records.Job.{Job}
-use Rattle.trace_text.specs.declared.records.Job.TheVariants.{Ask, Save, Move}
-use Rattle.trace_text.specs.declared.records.Record.{Record}
-use Rattle.trace_text.specs.declared.records.Asked.{Asked}
-use Rattle.trace_text.specs.declared.records.ClockRead.{ClockRead}
+use Rattle.trace_records.specs.declared.Call.{Call}
+use Rattle.trace_records.specs.declared.Call.TheVariants.{Act, ReadPage, ReadClock, ReadHv}
+use Rattle.trace_records.specs.declared.Job.{Job}
+use Rattle.trace_records.specs.declared.Job.TheVariants.{Ask, Save, Move}
+use Rattle.trace_records.specs.declared.Record.{Record}
 use Rattle.trace_text.specs.declared.records.Body.{Body}
 
 -- an access, where the board takes it
@@ -191,14 +188,6 @@ in_turn body cpu h job =
 unfoldable pub record_of : Body → List (List ℕ) → Result Record Reason
 record_of body = place dec (λ cpu. place dec (λ h ws. and_then (in_turn body cpu h) (job_of body ws)))
 
--- the record that asks for an access
-abbrev pub asking : Asked → Record
-asking a = record { cpu = a.cpu; h = a.h; job = Ask (Act a.access) }
-
--- .. and the one that reads the clock
-abbrev pub reading : ClockRead → Record
-reading r = record { cpu = r.cpu; h = r.h; job = Ask (ReadClock r.page) }
-
 -- the counters before, after a record: a move begins with its own start, for every processor
 abbrev pub before_after : List ℕ → Record → Job → List ℕ
 before_after before r (Move k start gap) = replicate 64 start
@@ -207,13 +196,6 @@ before_after before r _ = slice_set before r.cpu r.h
 -- what is known after a record
 abbrev pub body_after : Body → Record → Body
 body_after body r = record body { before = before_after body.before r r.job }
-
--- a board of this many processors and this format takes the access, or has the page
-abbrev pub IsFittingCall : ℕ → ℕ → Call → Type 0
-IsFittingCall cpus format (Act a) = is_legal cpus format a ≡ true
-IsFittingCall cpus format (ReadPage page) = page < cpus
-IsFittingCall cpus format (ReadClock page) = page < cpus
-IsFittingCall cpus format ReadHv = HV_FORMAT ≤ format
 
 -- what is known of a job: the board takes it, and the rate is in range
 abbrev pub IsJob : Body → Job → Type 0

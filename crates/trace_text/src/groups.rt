@@ -6,10 +6,11 @@ use crate::jobs::{
     ack_job, clock_job, counts_job, hr_job, hv_job, hw_job, in_job, move_job, out_job, page_job,
     plain_job, rdmsr_job, refresh_job, rose_job, save_job, step_job, wrmsr_job,
 };
-use crate::records::{Body, Job};
+use crate::records::Body;
 use crate::words::Words;
 use board_types::Access;
 use reply_text::Reason;
+use trace_records::Job;
 
 /// What a record does, by the words after its counter: their first byte says which rows of the table it may be.
 #[inline(never)]

@@ -26,11 +26,11 @@ ghost use Rattle.trace_text.specs.Header.{
   rtc_row,
   in_front,
   state_row,
-  place_of_line,
   routed,
   route_row,
   IsHead,
 };
+ghost use Rattle.irq_edges.specs.Lines.{place_of_line};
 
 use crate::header::{Begin, FORMAT_ROW, Head, ROUTE_ROW, STATE_ROW};
 use crate::state::board_of;

@@ -23,11 +23,12 @@ ghost use Rattle.trace_text.specs.Records.{
   IsJob,
 };
 
-use crate::records::{Body, Call, Job};
+use crate::records::Body;
 use crate::words::Words;
 use board_types::{APIC_FORMAT, Access, HV_FORMAT, TickSource, is_hpet_place, is_port};
 use irq_edges::is_line;
 use reply_text::Reason;
+use trace_records::{Call, Job};
 
 /// The MSR of steal time (Linux, "KVM-specific MSRs", MSR_KVM_STEAL_TIME), which isn't kept.
 const MSR_STEAL_TIME: u32 = 0x4b56_4d03;

@@ -32,8 +32,6 @@ pub use faults::RecordFault;
 pub use front::Front;
 pub use header::{Begin, Head, Header};
 pub use reading::{Item, Reading, ReadingParts, Stage};
-pub use records::{Asked, Body, Call, ClockRead, Job, Record};
+pub use records::Body;
 pub use reply_text::Reason;
-
-#[cfg(test)]
-mod tests;
+pub use trace_records::{Asked, Call, ClockRead, Job, Record};

@@ -36,17 +36,18 @@ ghost use Rattle.trace_text.specs.Lines.{
   HasTaken,
   HasRead,
 };
-ghost use Rattle.trace_text.specs.Records.{asking, reading};
+ghost use Rattle.trace_records.specs.Calls.{asking, reading};
 ghost use Rattle.trace_loop.specs.Progress.{limit_of};
 
 use crate::faults::RecordFault;
 use crate::front::Front;
 use crate::header::{Head, Header, first_line};
-use crate::records::{Asked, Body, ClockRead, Record};
+use crate::records::Body;
 use crate::words::Words;
 use reply_text::Reason;
 use std::marker::Model;
 use trace_loop::{LINE_MAX, limit_of};
+use trace_records::{Asked, ClockRead, Record};
 
 /// What a line is.
 #[derive(Clone, Copy)]

@@ -2,81 +2,16 @@
 ghost use Rattle.std.specs.Prelude.{◌≡◌, ◌<◌, ◌≤◌, Ok, IfOk, OnErr, IsErr, IfSome, IfNone, replicate};
 ghost use Rattle.std.specs.Bool.{OnTrue, OnFalse};
 ghost use Rattle.trace_text.specs.Tokens.{words_of};
-ghost use Rattle.trace_text.specs.Records.{
-  asking,
-  reading,
-  job_of,
-  record_of,
-  body_after,
-  IsJob,
-  IsRecord,
-};
+ghost use Rattle.trace_text.specs.Records.{job_of, record_of, body_after, IsJob, IsRecord};
+ghost use Rattle.trace_records.specs.Calls.{asking, reading};
 ghost use Rattle.trace_text.specs.private.Reads.{IsReadInto, IsTaken, IsTurn};
 
 use crate::front::Front;
 use crate::groups::job_in;
-use crate::jobs::act;
 use crate::usual::{usual_access, usual_clock, usual_job};
 use crate::words::Words;
-use board_types::Access;
 use reply_text::Reason;
-
-/// What a record asks of the board.
-#[derive(Clone, Copy, Debug, PartialEq, Eq)]
-pub enum Call {
-    /// An access.
-    Act { access: Access },
-    /// The page of this processor is read.
-    ReadPage { page: u8 },
-    /// The clock is read by the page of this processor.
-    ReadClock { page: u8 },
-    /// The reference page of Hyper-V is read; from format 4 on.
-    ReadHv,
-}
-
-/// What a record does.
-#[derive(Clone, Copy, Debug, PartialEq, Eq)]
-pub enum Job {
-    /// It asks something of the board.
-    Ask(Call),
-    /// The board is saved.
-    Save,
-    /// The board moves to a host of this rate in kHz, whose counter is at `start`, after a gap in nanoseconds.
-    Move { khz: u64, start: u64, gap: u64 },
-}
-
-/// A record of a trace.
-#[derive(Clone, Copy, Debug, PartialEq, Eq)]
-pub struct Record {
-    /// The processor.
-    pub cpu: u8,
-    /// The host's counter.
-    pub h: u64,
-    /// What it does.
-    pub job: Job,
-}
-
-/// A record that asks for an access.
-#[derive(Clone, Copy, Debug, PartialEq, Eq)]
-pub struct Asked {
-    /// The processor.
-    pub cpu: u8,
-    /// The host's counter.
-    pub h: u64,
-    /// The access.
-    pub access: Access,
-}
-
-/// A record that reads the clock.
-#[derive(Clone, Copy, Debug, PartialEq, Eq)]
-pub struct ClockRead {
-    /// The processor.
-    pub cpu: u8,
-    /// The host's counter.
-    pub h: u64,
-    /// The processor by whose page it is read.
-    pub page: u8,
-}
+use trace_records::{Asked, Call, ClockRead, Job, Record};
 
 /// What is known after `begin`: the format, the number of processors, and the counter before of each.
 #[derive(Clone, Copy, Debug, PartialEq, Eq)]
@@ -84,20 +19,6 @@ pub struct Body {
     pub(crate) format: u8,
     pub(crate) cpus: u8,
     pub(crate) before: [u64; 64],
-}
-
-impl Asked {
-    /// The record that it is.
-    #[inline(always)]
-    pub(crate) fn record(self) -> Record
-        ensures { result ≡ asking self }
-    {
-        Record {
-            cpu: self.cpu,
-            h: self.h,
-            job: act(self.access),
-        }
-    }
 }
 
 impl Body {

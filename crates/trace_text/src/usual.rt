@@ -15,11 +15,12 @@ ghost use Rattle.trace_text.specs.Records.{
 ghost use Rattle.trace_text.specs.private.Reads.{IsJobOf, acting};
 
 use crate::jobs::act;
-use crate::records::{Body, Call, Job};
+use crate::records::Body;
 use crate::words::Words;
 use board_types::{Access, is_hpet_place};
 use irq_edges::is_line;
 use std::simd::prelude::*;
+use trace_records::{Call, Job};
 
 /// The bytes `in ` as one word, the first of them in its lowest byte.
 const IN: u32 = 0x20_6e69;

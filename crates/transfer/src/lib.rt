@@ -17,6 +17,3 @@ mod outcome;
 
 pub use moves::{moved, spent_page};
 pub use outcome::{MoveFault, Moved};
-
-#[cfg(test)]
-mod tests;

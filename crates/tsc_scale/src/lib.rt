@@ -21,9 +21,6 @@ ghost use Rattle.clk_units.specs.Ranges.{IsKhz};
 ghost use Rattle.tsc_scale.specs.Ratio.{ratio_of};
 ghost use Rattle.tsc_scale.specs.Offset.{tsc_by};
 
-#[cfg(test)]
-mod tests;
-
 /// How many bits a ratio has after its binary point.
 const FRACTION_BITS: u32 = 48;
 

@@ -13,14 +13,14 @@ use Rattle.board_types.specs.declared.access.Access.TheVariants.{
   Rose as Rises,
   Eoi as Ends,
 }
-use Rattle.trace_text.specs.declared.records.Call.{Call}
-use Rattle.trace_text.specs.declared.records.Call.TheVariants.{
+use Rattle.trace_records.specs.declared.Call.{Call}
+use Rattle.trace_records.specs.declared.Call.TheVariants.{
   Act,
   ReadPage as Page,
   ReadClock as Clock,
   ReadHv as Hv,
 }
-use Rattle.race_phase.specs.declared.records.Record.{Record}
+use Rattle.trace_blocks.specs.declared.records.Record.{Record}
 use Rattle.race_phase.specs.declared.packed.Packed.{Packed}
 use Rattle.race_phase.specs.declared.packed.Small.{Small}
 use Rattle.race_phase.specs.declared.packed.Small.TheVariants.{

@@ -1,7 +1,7 @@
 -- A phase whose records were run, and a phase that was run after a text.
 use Rattle.std.specs.Prelude.{◌≡◌, ℕ, ◌≤◌, List, [], ◌++◌}
-use Rattle.race_phase.specs.declared.deliveries.Deliveries.{Deliveries}
-use Rattle.race_phase.specs.declared.records.Record.{Record}
+use Rattle.trace_blocks.specs.declared.deliveries.Deliveries.{Deliveries}
+use Rattle.trace_blocks.specs.declared.records.Record.{Record}
 use Rattle.board_types.specs.declared.parts.BoardParts.{BoardParts}
 use Rattle.board_history.specs.History.{board_after, entries_of, IsLegal, Opens}
 use Rattle.board_history.specs.declared.entry.Entry.{Entry}

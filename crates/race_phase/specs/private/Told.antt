@@ -1,7 +1,7 @@
 -- What a worker was told, with the reply that it keeps.
 use Rattle.board_types.specs.declared.reply.Reply.{Reply}
-use Rattle.race_phase.specs.declared.records.Answer.{Answer}
-use Rattle.race_phase.specs.declared.records.Answer.TheVariants.{
+use Rattle.trace_blocks.specs.declared.records.Answer.{Answer}
+use Rattle.trace_blocks.specs.declared.records.Answer.TheVariants.{
   Acted as ActedBy,
   PageIs as PageIsBy,
   ClockIs as ClockIsBy,

@@ -23,7 +23,7 @@ use Rattle.std.specs.Prelude.{
   OnErr,
 }
 use Rattle.std.specs.List.{filter_map}
-use Rattle.race_phase.specs.declared.deliveries.Deliveries.{Deliveries}
+use Rattle.trace_blocks.specs.declared.deliveries.Deliveries.{Deliveries}
 use Rattle.board_types.specs.declared.parts.BoardParts.{BoardParts}
 use Rattle.board_types.specs.declared.reply.Refusal.{Refusal}
 use Rattle.board_core.specs.Refusals.{refusal_of}
@@ -34,12 +34,12 @@ use Rattle.clock_table.specs.declared.view.Miss.{Miss}
 use Rattle.shared_board.specs.declared.known.PassKnown.{PassKnown}
 use Rattle.shared_board.specs.Passes.{mine, Made, Unanswered, IsUpdate}
 use Rattle.shared_board.specs.Faults.{page_reads}
-use Rattle.race_phase.specs.declared.records.Answer.{Answer}
-use Rattle.trace_text.specs.declared.records.Call.{Call}
-use Rattle.trace_text.specs.declared.records.Call.TheVariants.{Act, ReadPage, ReadClock, ReadHv}
-use Rattle.race_phase.specs.declared.records.Record.{Record}
+use Rattle.trace_blocks.specs.declared.records.Answer.{Answer}
+use Rattle.trace_records.specs.declared.Call.{Call}
+use Rattle.trace_records.specs.declared.Call.TheVariants.{Act, ReadPage, ReadClock, ReadHv}
+use Rattle.trace_blocks.specs.declared.records.Record.{Record}
 use Rattle.race_phase.specs.declared.batch.Place.{Place}
-use Rattle.race_phase.specs.Blocks.{block_of}
+use Rattle.trace_blocks.specs.Blocks.{block_of}
 use Rattle.race_phase.specs.Calls.{IsFitting, records_of, CallMade, AllMade, locked_page}
 use Rattle.race_phase.specs.private.Told.{answer_with}
 

@@ -1,9 +1,9 @@
 -- What a worker has done of a phase.
 use Rattle.std.specs.Prelude.{◌≡◌, ℕ, ◌<◌, List, All, length, true, false}
-use Rattle.race_phase.specs.declared.deliveries.Deliveries.{Deliveries}
+use Rattle.trace_blocks.specs.declared.deliveries.Deliveries.{Deliveries}
 use Rattle.board_types.specs.declared.parts.BoardParts.{BoardParts}
 use Rattle.board_history.specs.History.{IsLegal}
-use Rattle.race_phase.specs.declared.records.Record.{Record}
+use Rattle.trace_blocks.specs.declared.records.Record.{Record}
 use Rattle.race_phase.specs.declared.working.Working.{Working}
 use Rattle.race_phase.specs.Calls.{IsFitting, records_of}
 use Rattle.race_phase.specs.private.Workers.{AllButLast, HasStopped}

@@ -3,7 +3,7 @@ use Rattle.std.specs.Prelude.{◌≡◌, Some, IfSome}
 use Rattle.board_types.specs.declared.parts.BoardParts.{BoardParts}
 use Rattle.race_phase.specs.Parts.{WriterParts}
 use Rattle.race_phase.specs.Tallies.{TallyParts, IsTally}
-use Rattle.race_phase.specs.declared.deliveries.Deliveries.{Deliveries}
+use Rattle.trace_blocks.specs.declared.deliveries.Deliveries.{Deliveries}
 use Rattle.trace_runner.specs.Replayed.{replayed}
 
 -- the tally counts the board that the records of the writer leave, which are to fit boards of its

@@ -6,11 +6,11 @@ use Rattle.trace_loop.specs.Text.{memory_fault_text}
 use Rattle.trace_runner.specs.Check.{check_after, check}
 use Rattle.trace_runner.specs.Checked.Checked.{Whole}
 use Rattle.trace_runner.specs.Race.{RaceLeaves, AloneLeaves, check_run}
-use Rattle.trace_runner.specs.Replay.{replay}
-use Rattle.trace_runner.specs.Said.{Said}
+use Rattle.trace_replay.specs.Replay.{replay}
+use Rattle.trace_replay.specs.Said.{Said}
 use Rattle.trace_runner.specs.Trace.{TraceRead}
-use Rattle.trace_runner.specs.declared.status.Status.{Status}
-use Rattle.trace_runner.specs.declared.status.Status.TheVariants.{NoMemory}
+use Rattle.trace_replay.specs.declared.status.Status.{Status}
+use Rattle.trace_replay.specs.declared.status.Status.TheVariants.{NoMemory}
 
 -- this is so of the input that a source has left, where that is known
 abbrev pub OfInput : Input → (List ℕ → Type 0) → Type 0

@@ -19,10 +19,10 @@ use Rattle.std.specs.Bool.{OnTrue, OnFalse}
 use Rattle.board_types.specs.declared.access.Access.{Access}
 use Rattle.reply_text.specs.declared.ends.Reason.{Reason}
 use Rattle.trace_text.specs.declared.records.Body.{Body}
-use Rattle.trace_text.specs.declared.records.Call.TheVariants.{Act}
-use Rattle.trace_text.specs.declared.records.Job.{Job}
-use Rattle.trace_text.specs.declared.records.Job.TheVariants.{Ask}
-use Rattle.trace_text.specs.declared.records.Record.{Record}
+use Rattle.trace_records.specs.declared.Call.TheVariants.{Act}
+use Rattle.trace_records.specs.declared.Job.{Job}
+use Rattle.trace_records.specs.declared.Job.TheVariants.{Ask}
+use Rattle.trace_records.specs.declared.Record.{Record}
 use Rattle.trace_text.specs.Tokens.{dec, rest}
 use Rattle.trace_text.specs.Records.{record_of, body_after, IsJob, IsRecord}
 

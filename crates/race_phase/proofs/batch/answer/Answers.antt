@@ -1,5 +1,5 @@
 use Rattle.std.proofs.Common.{sym, subst}
-use Rattle.trace_text.specs.declared.records.Call.{Call}
+use Rattle.trace_records.specs.declared.Call.{Call}
 use Rattle.race_phase.specs.private.Workers.{CallTrouble}
 use Rattle.race_phase.proofs.Unread.{unread}
 use Rattle.race_phase.proofs.Answered.{page_made, clock_made, hv_made}

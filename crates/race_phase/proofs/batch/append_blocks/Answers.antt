@@ -1,7 +1,7 @@
 use Rattle.std.proofs.Common.{◌≡◌, ℕ, ◌<◌, ◌++◌, ◌∙◌, List, ap, get_or, length, arith}
-use Rattle.race_phase.specs.declared.deliveries.Deliveries.{Deliveries}
+use Rattle.trace_blocks.specs.declared.deliveries.Deliveries.{Deliveries}
 use Rattle.race_phase.specs.declared.batch.Place.{Place}
-use Rattle.race_phase.specs.declared.records.Record.{Record}
+use Rattle.trace_blocks.specs.declared.records.Record.{Record}
 use Rattle.race_phase.specs.private.Workers.{place_text}
 use Rattle.race_phase.proofs.Workers.{blocks_more}
 use Rattle.race_phase.proofs.batch.append_blocks.Goals as goal

@@ -1,6 +1,6 @@
 use Rattle.std.proofs.Common.{◌≡◌, ◌++◌, List, ℕ, ap, sym, ◌∙◌, subst, refl}
 use Rattle.board_types.specs.declared.parts.BoardParts.{BoardParts}
-use Rattle.race_phase.specs.Phases.{end_text, next_board}
+use Rattle.trace_blocks.specs.Ends.{end_text, next_board}
 use Rattle.race_phase.specs.private.Feed.{PhaseRun}
 use Rattle.race_phase.proofs.Going.{mid_takes, phase_has_ended}
 use Rattle.race_phase.proofs.race.run_and_end.Given as given

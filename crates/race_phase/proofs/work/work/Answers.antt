@@ -1,7 +1,7 @@
 use Rattle.std.proofs.Common.{arith, ◌≡◌, ◌∙◌, ◌+◌, ◌∷◌, [], ◌++◌, ℕ, ap, sym, subst, refl, List, length, ◌<◌, ◌^◌}
 use Rattle.std.proofs.lemmas.List.Elements.{All-nil}
 use Rattle.race_phase.specs.declared.piece.Part.{Part}
-use Rattle.race_phase.specs.declared.records.Record.{Record}
+use Rattle.trace_blocks.specs.declared.records.Record.{Record}
 use Rattle.race_phase.specs.Calls.{IsFitting}
 use Rattle.race_phase.specs.Parts.{IsPart, part_at}
 use Rattle.race_phase.specs.private.Feed.{HasRun}

@@ -1,7 +1,7 @@
 use Rattle.std.proofs.Common.{◌≡◌, ◌%◌, ◌∷◌, [], sym, subst, arith, eq-eqb, ne_eqb, eqb, Bool, true, false, inr}
 use Rattle.pvclock_page.specs.declared.page.Page.{Page}
 use Rattle.pvclock_page.specs.Words.{page_of}
-use Rattle.shared_board.specs.private.Tries.{HasHeard}
+use Rattle.shared_board.specs.Tries.{HasHeard}
 use Rattle.shared_board.proofs.Fields.{noted, all_four, even_read, noted_1, noted_2, noted_3, noted_4, is_reading, may_end, Ends, read_ends}
 use Rattle.shared_board.proofs.tries.read_words.Given as given
 use Rattle.shared_board.proofs.tries.read_words.Goals as goal

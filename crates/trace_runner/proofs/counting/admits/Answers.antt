@@ -1,4 +1,4 @@
-use Rattle.trace_runner.proofs.Counts.{fits_tally}
+use Rattle.trace_runner.proofs.Fits.{fits_tally}
 use Rattle.trace_runner.proofs.counting.admits.Goals as goal
 
 pub admits_call-requires-clause-fits : goal.admits_call-requires-clause-fits

@@ -1,4 +1,4 @@
-use Rattle.trace_runner.proofs.Counts.{counted}
+use Rattle.trace_replay.proofs.Counts.{counted}
 use Rattle.trace_runner.proofs.counting.admits_count.Goals as goal
 
 pub returns-in-Ok : goal.returns-in-Ok

@@ -1,4 +1,4 @@
-use Rattle.trace_runner.proofs.Counts.{by_refusal-none}
+use Rattle.trace_runner.proofs.Fits.{by_refusal-none}
 use Rattle.trace_runner.proofs.Replayed.{clock-tally}
 use Rattle.trace_runner.proofs.counting.count_call.Goals as goal
 

@@ -1,6 +1,6 @@
 use Rattle.std.proofs.Common.{ap, sym, ◌∙◌, Some}
 use Rattle.reply_text.specs.declared.ends.Refused.{Refused}
-use Rattle.trace_runner.proofs.Counts.{counted, faulted}
+use Rattle.trace_replay.proofs.Counts.{counted, faulted}
 use Rattle.trace_runner.proofs.counting.refused_count.Goals as goal
 
 pub returns-in-Ok : goal.returns-in-Ok

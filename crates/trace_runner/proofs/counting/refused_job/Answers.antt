@@ -1,4 +1,4 @@
-use Rattle.trace_runner.proofs.Counts.{fits_tally}
+use Rattle.trace_runner.proofs.Fits.{fits_tally}
 use Rattle.trace_runner.proofs.counting.refused_job.Goals as goal
 
 pub refused_call-requires-clause-fits : goal.refused_call-requires-clause-fits

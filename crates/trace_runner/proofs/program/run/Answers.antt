@@ -6,12 +6,12 @@ use Rattle.command_line.specs.declared.command.Command.TheVariants.{Replay as Re
 use Rattle.trace_loop.specs.Text.{memory_fault_text}
 use Rattle.trace_loop.specs.Progress.{opened, after_bytes}
 use Rattle.trace_loop.specs.Outcome.{Outcome, run_over}
-use Rattle.trace_runner.specs.Replay.{answer_of, closing_of, progress_after, replay, replay_run}
-use Rattle.trace_runner.specs.Status.{Shown}
-use Rattle.trace_runner.specs.declared.replay.Replay.{Replay}
-use Rattle.trace_runner.specs.declared.status.Status.{Status}
+use Rattle.trace_replay.specs.Replay.{answer_of, closing_of, progress_after, replay, replay_run}
+use Rattle.trace_replay.specs.Status.{Shown}
+use Rattle.trace_replay.specs.declared.replay.Replay.{Replay}
+use Rattle.trace_replay.specs.declared.status.Status.{Status}
 use Rattle.trace_runner.proofs.Sayings.{by_flag}
-use Rattle.trace_runner.proofs.Statuses.{shown_is}
+use Rattle.trace_replay.proofs.Statuses.{shown_is}
 use Rattle.trace_runner.proofs.program.run.Given.{Over}
 use Rattle.trace_runner.proofs.program.run.Goals.{After-status_of, After-race}
 use Rattle.trace_runner.proofs.program.run.Goals as goal

@@ -1,7 +1,7 @@
 use Rattle.std.proofs.Common.{◌∙◌, ℕ, List, Some, ap, sym, inl, inr, true≢false}
 use Rattle.trace_runner.specs.declared.texts.TheConstants.{USAGE, VERSION}
 use Rattle.trace_runner.specs.Sayings.{Saying, reads_trace, saying_of}
-use Rattle.trace_runner.specs.declared.status.Status.TheVariants.{Ok, Usage}
+use Rattle.trace_replay.specs.declared.status.Status.TheVariants.{Ok, Usage}
 use Rattle.trace_runner.proofs.Sayings.{said-whole}
 use Rattle.trace_runner.proofs.program.tell.Goals as goal
 

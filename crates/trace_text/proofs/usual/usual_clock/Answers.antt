@@ -2,9 +2,9 @@ use Rattle.std.proofs.Common.{◌≡◌, ℕ, ◌<◌, List, Option, None, Some,
 use Rattle.trace_text.specs.Records.{page_row}
 use Rattle.trace_text.specs.private.Reads.{IsJobOf}
 use Rattle.trace_text.specs.declared.records.Body.{Body}
-use Rattle.trace_text.specs.declared.records.Call.{Call}
-use Rattle.trace_text.specs.declared.records.Call.TheVariants.{ReadClock}
-use Rattle.trace_text.specs.declared.records.Job.TheVariants.{Ask}
+use Rattle.trace_records.specs.declared.Call.{Call}
+use Rattle.trace_records.specs.declared.Call.TheVariants.{ReadClock}
+use Rattle.trace_records.specs.declared.Job.TheVariants.{Ask}
 use Rattle.trace_text.proofs.Prefixes.{clock_prefix, all_left}
 use Rattle.trace_text.proofs.UsualRows.{clock_first, by_row}
 use Rattle.trace_text.proofs.usual.usual_clock.Goals as goal

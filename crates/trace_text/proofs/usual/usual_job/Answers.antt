@@ -2,8 +2,8 @@ use Rattle.std.proofs.Common.{ℕ, ◌-◌, ◌%◌, List, length, take, drop, c
 use Rattle.board_types.specs.declared.access.Access.TheVariants.{Refresh}
 use Rattle.trace_text.specs.Records.{hr_row, hw_row, page_row}
 use Rattle.reply_text.specs.declared.ends.Reason.{Reason}
-use Rattle.trace_text.specs.declared.records.Call.TheVariants.{Act}
-use Rattle.trace_text.specs.declared.records.Job.{Job}
+use Rattle.trace_records.specs.declared.Call.TheVariants.{Act}
+use Rattle.trace_records.specs.declared.Job.{Job}
 use Rattle.trace_text.proofs.Prefixes.{refresh_prefix, hr_prefix, hw_prefix, sliced, all_left}
 use Rattle.trace_text.proofs.UsualRows.{refresh_first, hr_first, hw_first, by_row}
 use Rattle.trace_text.proofs.usual.usual_job.Goals as goal

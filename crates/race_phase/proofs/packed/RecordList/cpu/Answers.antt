@@ -1,6 +1,6 @@
 use Rattle.std.proofs.Common.{◌≡◌, ◌<◌, List, IfSome, length, ap, subst, arith}
 use Rattle.std.specs.Prelude.{slice_get}
-use Rattle.race_phase.specs.declared.records.Record.{Record}
+use Rattle.trace_blocks.specs.declared.records.Record.{Record}
 use Rattle.race_phase.proofs.Unpacked.{length-unpacked_all, cpu_at}
 use Rattle.race_phase.proofs.packed.RecordList.cpu.Goals as goal
 

@@ -1,5 +1,5 @@
 use Rattle.std.proofs.Common.{List, length, sym, ap, ◌∙◌}
-use Rattle.race_phase.specs.declared.records.Record.{Record}
+use Rattle.trace_blocks.specs.declared.records.Record.{Record}
 use Rattle.race_phase.proofs.Unpacked.{length-unpacked_all}
 use Rattle.race_phase.proofs.packed.RecordList.len.Goals as goal
 

@@ -1,5 +1,5 @@
 use Rattle.std.proofs.Common.{◌≡◌, List, [], ◌∷◌, ◌++◌, take, ap, ◌∙◌}
-use Rattle.race_phase.specs.declared.records.Record.{Record}
+use Rattle.trace_blocks.specs.declared.records.Record.{Record}
 use Rattle.race_phase.specs.declared.packed.Packed.{Packed}
 use Rattle.race_phase.specs.private.Packed.{unpacked_all}
 use Rattle.race_phase.proofs.Unpacked.{unpacked-more, unpacked-pushed, taken_back}

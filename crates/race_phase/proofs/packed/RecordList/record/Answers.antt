@@ -1,7 +1,7 @@
 use Rattle.std.proofs.Common.{◌<◌, ℕ, List, Option, Some, IfNone, length, sym, ap, subst, ◌∙◌, arith}
 use Rattle.std.specs.Prelude.{slice_get}
-use Rattle.trace_text.specs.declared.records.Call.{Call}
-use Rattle.race_phase.specs.declared.records.Record.{Record}
+use Rattle.trace_records.specs.declared.Call.{Call}
+use Rattle.trace_blocks.specs.declared.records.Record.{Record}
 use Rattle.race_phase.specs.declared.packed.Packed.{Packed}
 use Rattle.race_phase.specs.private.Packed.{unpacked_by, IsIn}
 use Rattle.race_phase.proofs.Unpacked.{length-unpacked_all, unpacked_at, whole_at}

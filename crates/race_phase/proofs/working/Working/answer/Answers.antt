@@ -1,5 +1,5 @@
 use Rattle.std.proofs.Common.{rules, ◌≡◌, ap, sym, subst, List, false, true}
-use Rattle.race_phase.specs.declared.records.Record.{Record}
+use Rattle.trace_blocks.specs.declared.records.Record.{Record}
 use Rattle.race_phase.specs.private.Workers.{HasHalted, HasPrinted}
 use Rattle.race_phase.proofs.Steps.{step_printed, step_same, step_stopped}
 use Rattle.race_phase.proofs.working.Working.answer.Goals as goal

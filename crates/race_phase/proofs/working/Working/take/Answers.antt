@@ -1,8 +1,8 @@
 use Rattle.std.proofs.Common.{arith, ◌≡◌, ◌∙◌, ◌∷◌, [], ◌++◌, ◌+◌, ◌<◌, ◌≤◌, ℕ, ap, sym, subst, refl, List, All, length, length-append, take, get_or, append_assoc}
 use Rattle.std.proofs.lemmas.List.Elements.{All-push}
 use Rattle.std.proofs.lemmas.Option.{get_or_from_slice_get, slice_get_within}
-use Rattle.race_phase.specs.declared.records.Record.{Record}
-use Rattle.trace_text.specs.declared.records.Call.TheVariants.{ReadPage}
+use Rattle.trace_blocks.specs.declared.records.Record.{Record}
+use Rattle.trace_records.specs.declared.Call.TheVariants.{ReadPage}
 use Rattle.race_phase.specs.Calls.{IsFitting}
 use Rattle.race_phase.specs.private.Working.{IsReady, IsWorking}
 use Rattle.race_phase.proofs.Steps.{step_halted, step_skip, step_waits}

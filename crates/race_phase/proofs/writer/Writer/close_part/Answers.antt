@@ -3,10 +3,10 @@ use Rattle.std.specs.Prelude.{IfSome}
 use Rattle.std.proofs.lemmas.List.Elements.{All-nil, All-push}
 use Rattle.race_phase.specs.declared.phases.Phase.{Phase}
 use Rattle.race_phase.specs.declared.piece.Part.{Part}
-use Rattle.race_phase.specs.declared.records.Record.{Record}
+use Rattle.trace_blocks.specs.declared.records.Record.{Record}
 use Rattle.race_phase.specs.Calls.{IsFitting}
 use Rattle.race_phase.specs.Parts.{IsPart, WriterParts, phase_by, left_open, phases_in, open_in}
-use Rattle.race_phase.specs.Phases.{IsEnd}
+use Rattle.trace_blocks.specs.Ends.{IsEnd}
 use Rattle.race_phase.proofs.Parts.{put-snoc}
 use Rattle.race_phase.proofs.writer.Writer.close_part.Goals as goal
 

@@ -1,6 +1,0 @@
-use Rattle.std.proofs.Common.{ℕ, ◌<◌, ◌^◌}
-use Rattle.board_devices.specs.Places.{line_at}
-use Rattle.board_devices.proofs.tests.has_room.Given as goal
-
-abbrev pub invariant-loop-k : goal.invariant-loop-k
-invariant-loop-k l = (j : ℕ) → j < l.k → (line_at j l.devices).counts.due < 2 ^ 62

@@ -1,0 +1,177 @@
+//! The end of a phase: a save or a move.
+ghost use Rattle.std.specs.Prelude.{◌≡◌, ◌<◌, ◌++◌, Some, None, IfOk, IfSome, IfNone, OnOk, OnErr};
+ghost use Rattle.std.specs.Option.{option_map};
+ghost use Rattle.std.specs.Io.{StartsWith};
+ghost use Rattle.clk_units.specs.Ranges.{IsKhz};
+ghost use Rattle.transfer.specs.Move.{move_fault, moved_to};
+ghost use Rattle.trace_blocks.specs.declared.faults.Cause.TheVariants.{Move as ByMove};
+ghost use Rattle.trace_blocks.specs.Blocks.{edges_text, messages_text};
+ghost use Rattle.trace_blocks.specs.Ends.{at_line};
+ghost use Rattle.trace_blocks.specs.Ends.{
+  IsEnd,
+  next_board,
+  end_fault,
+  save_block,
+  move_block,
+  end_text,
+};
+
+use crate::blocks::event_lines;
+use crate::deliveries::{Deliveries, edge_lines, message_lines};
+use crate::faults::{Cause, Fault};
+use board_core::{Access, BoardState, Reply};
+use clk_units::NoMemory;
+use reply_text::{move_line, save_line};
+use save_state::encode;
+use transfer::{Moved, moved};
+
+/// Where a board moves.
+#[derive(Clone, Copy, Debug, PartialEq, Eq)]
+pub struct NewHost {
+    /// The rate of its counter in kHz, 100,000 to 10,000,000.
+    pub khz: u64,
+    /// Its count when the gap is over.
+    pub start: u64,
+    /// The gap in nanoseconds.
+    pub gap: u64,
+}
+
+/// What ends a phase. A save and a move begin with an access that lets time pass, by a processor at a count of the
+/// host's counter.
+#[derive(Clone, Copy, Debug, PartialEq, Eq)]
+pub enum End {
+    /// The trace ends.
+    Finish,
+    /// The board is saved, and goes on.
+    Save {
+        line: u64,
+        cpu: u8,
+        h: u64,
+    },
+    /// The board moves to another host, and goes on there.
+    Move {
+        line: u64,
+        cpu: u8,
+        h: u64,
+        host: NewHost,
+    },
+}
+
+/// Does what ends a phase, and appends its block; or says why it is refused, and then appends nothing. A move that its gap
+/// refuses leaves the board after the access before it.
+#[inline(never)]
+pub fn end_phase(
+    end: &End,
+    board: &mut BoardState,
+    deliveries: &Deliveries,
+    out: &mut Vec<u8>,
+) -> Result<Option<Fault>, NoMemory>
+    requires end { IsEnd board.old.cpus end.now }
+    ensures fault { IfOk result (λ f. f ≡ end_fault board.old end.now) }
+    ensures board { IfOk result (λ f. IfNone f (board.new ≡ next_board end.now board.old)) }
+    ensures text { IfOk result (λ f. IfNone f (out.new.items
+        ≡ out.old.items ++ end_text deliveries.now end.now board.old)) }
+    ensures refused { IfOk result (λ f. IfSome f (λ _. out.new.items ≡ out.old.items)) }
+    ensures err { OnErr result (StartsWith out.new.items out.old.items) }
+{
+    match *end {
+        End::Finish => Ok(None),
+        End::Save { line, cpu, h } => match board.access(cpu, h, Access::Step) {
+            Ok(reply) => {
+                save(line, &reply, board, deliveries, out)?;
+                Ok(None)
+            }
+            Err(refusal) => Ok(refused(line, Cause::Access { refusal })),
+        },
+        End::Move { line, cpu, h, host } => match board.access(cpu, h, Access::Step) {
+            Ok(reply) => cross_gap(line, &reply, host, board, deliveries, out),
+            Err(refusal) => Ok(refused(line, Cause::Access { refusal })),
+        },
+    }
+}
+
+/// A line that is refused.
+fn refused(line: u64, cause: Cause) -> Option<Fault>
+    ensures { result ≡ at_line line (Some cause) }
+{
+    Some(Fault { line, cause })
+}
+
+/// Appends the block of a save, whose access gave this reply.
+fn save(
+    line: u64,
+    reply: &Reply,
+    board: &BoardState,
+    deliveries: &Deliveries,
+    out: &mut Vec<u8>,
+) -> Result<(), NoMemory>
+    ensures ok { OnOk result (out.new.items
+        ≡ out.old.items ++ save_block deliveries.now line reply.now board.now) }
+    ensures err { OnErr result (StartsWith out.new.items out.old.items) }
+{
+    event_lines(reply, deliveries, out)?;
+    let bytes = encode(*out.allocator(), board)?;
+    save_line(line, reply.number, &bytes, out)
+}
+
+/// Takes a board over the gap, after an access that gave this reply, and appends the block of the move.
+fn cross_gap(
+    line: u64,
+    reply: &Reply,
+    host: NewHost,
+    board: &mut BoardState,
+    deliveries: &Deliveries,
+    out: &mut Vec<u8>,
+) -> Result<Option<Fault>, NoMemory>
+    requires rate { IsKhz host.khz }
+    ensures fault { IfOk result
+        (λ f. f ≡ at_line line (option_map ByMove (move_fault host.gap board.old))) }
+    ensures board { IfOk result (λ f. IfNone f
+        (board.new ≡ moved_to host.khz host.start host.gap board.old)) }
+    ensures text { IfOk result (λ f. IfNone f (out.new.items
+        ≡ out.old.items ++ move_block deliveries.now line host reply.now board.old)) }
+    ensures refused { IfOk result (λ f. IfSome f (λ _. out.new.items ≡ out.old.items)) }
+    ensures err { OnErr result (StartsWith out.new.items out.old.items) }
+{
+    match moved(board, host.khz, host.start, host.gap) {
+        Ok(moved) => {
+            all_edge_lines(reply, &moved, deliveries, out)?;
+            all_message_lines(reply, &moved, deliveries, out)?;
+            *board = moved.state;
+            move_line(line, reply.number, board.now(), out)?;
+            Ok(None)
+        }
+        Err(fault) => Ok(refused(line, Cause::Move { fault })),
+    }
+}
+
+/// Appends the lines of the edges of a move's access, and then of its gap.
+fn all_edge_lines(
+    reply: &Reply,
+    moved: &Moved,
+    deliveries: &Deliveries,
+    out: &mut Vec<u8>,
+) -> Result<(), NoMemory>
+    ensures ok { OnOk result (out.new.items ≡ out.old.items
+        ++ (edges_text deliveries.now reply.now.edges ++ edges_text deliveries.now moved.now.edges)) }
+    ensures err { OnErr result (StartsWith out.new.items out.old.items) }
+{
+    edge_lines(reply.edges.as_slice(), deliveries, out)?;
+    edge_lines(moved.edges.as_slice(), deliveries, out)
+}
+
+/// The same of its messages.
+fn all_message_lines(
+    reply: &Reply,
+    moved: &Moved,
+    deliveries: &Deliveries,
+    out: &mut Vec<u8>,
+) -> Result<(), NoMemory>
+    ensures ok { OnOk result (out.new.items ≡ out.old.items
+        ++ (messages_text deliveries.now reply.now.bursts
+        ++ messages_text deliveries.now moved.now.bursts)) }
+    ensures err { OnErr result (StartsWith out.new.items out.old.items) }
+{
+    message_lines(&reply.bursts, deliveries, out)?;
+    message_lines(&moved.bursts, deliveries, out)
+}

@@ -1,0 +1,9 @@
+pub mod Deliveries
+pub mod Ready
+pub mod Records
+pub mod Replay
+pub mod Said
+pub mod Soak
+pub mod Status
+pub mod WholeLines
+pub mod private
