@@ -114,9 +114,13 @@ class Install(unittest.TestCase):
             abi = re.search(r"^#define CLOCKBOARD_ABI (\d+)$", HEADER.read_text(), re.MULTILINE).group(1)
             shared = ["lib/libclockboard.so", f"lib/libclockboard.so.{abi}"] if shutil.which("cc") else []
             monitor = [f"share/doc/clockboard/examples/monitor/{path.name}" for path in (HEADER.parent / "monitor").iterdir()]
+            tools = support.TOOLS / "clocktools"
+            modules = [f"lib/clockboard/tools/{path.relative_to(support.TOOLS)}"
+                       for path in (tools / "__init__.py", tools / "program.py", *(tools / "states").glob("*.py"))]
             self.assertEqual(files, sorted([
-                "bin/clockboard", "include/clockboard/clockboard.h", "include/clockboard/put_page.h",
-                "include/clockboard/record.h", "include/clockboard/shared.h", "lib/cmake/clockboard/clockboard-config-version.cmake",
+                "bin/clockboard", "bin/clockboard-state", "lib/clockboard/bin/clockboard", "lib/clockboard/tools/state", *modules, "include/clockboard/clockboard.h", "include/clockboard/put_page.h",
+                "include/clockboard/record.h", "include/clockboard/shared.h",
+                "include/clockboard/state_fields.h", "include/clockboard/kvm_state.h", "lib/cmake/clockboard/clockboard-config-version.cmake",
                 "lib/cmake/clockboard/clockboard-config.cmake", "lib/libclockboard.a", *shared,
                 "lib/pkgconfig/clockboard.pc", "share/bash-completion/completions/clockboard",
                 "share/doc/clockboard/LICENSE-APACHE", "share/doc/clockboard/LICENSE-MIT",
@@ -127,6 +131,16 @@ class Install(unittest.TestCase):
             self.assertIn(version.stdout.strip(), MAN.read_text())
             self.assertIn(f'#define CLOCKBOARD_VERSION "{version.stdout.split()[1]}"', HEADER.read_text())
             self.assertIn(version.stdout.strip(), CALLS.read_text())
+            self.prints_a_state(top)
+
+    def prints_a_state(self, top: Path) -> None:
+        """The installed tool finds its modules, and the installed program, by its link."""
+        env = {name: value for name, value in os.environ.items() if name != "CLOCKBOARD"}
+        blank = subprocess.run([top / "bin/clockboard", "replay", "--state"], input="clockboard 2\nbegin\nend\n", capture_output=True,
+                               text=True, check=True).stdout
+        done = subprocess.run([top / "bin/clockboard-state", "print", "-"], input=blank, capture_output=True, text=True, check=False,
+                              env={**env, "PYTHONDONTWRITEBYTECODE": "1"})
+        self.assertEqual((done.returncode, done.stdout.splitlines()[0]), (0, "format 2"), done.stderr)
 
     def test_calls_of_the_man_page(self) -> None:
         """The man page of the library has each call of the header and of shared.h but for the latter's own steps, and no other."""
