@@ -1,7 +1,12 @@
 # SPDX-License-Identifier: Apache-2.0 OR MIT
 """Traces as people write them by mistake, and what tools/explain must say of each: a part of the mend."""
 
+import bz2
 import gzip
+import lzma
+import subprocess
+
+import support
 
 IN_THE_HEADER = {
     "no format": ("host 1000000 0\nbegin\nend\n", "the first line says the format"),
@@ -42,7 +47,7 @@ IN_THE_HEADER = {
     "a capital begin": ("clockboard 1\nBegin\nend\n", "begin in place of Begin"),
     "a space after begin": ("clockboard 1\nbegin \nend\n", "none at either end"),
     "a state after a line": ("clockboard 1\ncpus 1\nstate 43\nbegin\nend\n", "in place of host, guest"),
-    "half a byte of a state": ("clockboard 1\nstate 434\nbegin\nend\n", "two hexadecimal digits a byte"),
+    "half a byte of a state": ("clockboard 1\nstate 434\nbegin\nend\n", "a byte is two hexadecimal digits"),
     "a state of version 2": ("clockboard 1\nstate 434c4b424f4152440200\nbegin\nend\n", "is taken in format 2"),
     "a state of version 5": ("clockboard 2\nstate 434c4b424f4152440500\nbegin\nend\n", "is taken in format 5"),
 }
@@ -131,8 +136,108 @@ WHOLE = {
 """By name: the file, and a part of the mend."""
 
 
+CHARACTERS = {
+    "lone carriage returns": ("clockboard 1\rbegin\r0 0 step\rend\r", "lines end with CR alone here"),
+    "a blank behind end": ("clockboard 1\nbegin\nend \n", "a space stands behind `end`; the last line is these three letters alone"),
+    "a line of blanks": ("clockboard 1\nbegin\n   \nend\n", "the line has spaces alone"),
+    "spaces before each line": ("    clockboard 1\n    begin\n    end\n", "the line has one before its first word"),
+    "a no-break space": ("clockboard 1\nbegin\n0\u00a00 step\nend\n", "a no-break space is no space: sed -i 's/\\xc2\\xa0/ /g' TRACE"),
+    "a space without width": ("clockboard 1\nbegin\n0 0 st\u200bep\nend\n", "a character without width (U+200B)"),
+    "quotes of a word processor": ("clockboard 1\nbegin\n0 0 out \u201c43\u201d 34\nend\n", "words have no quotes"),
+    "a minus of a word processor": ("clockboard 1\nbegin\n0 \u22125 step\nend\n", "a dash (U+2212)"),
+    "a wide digit": ("clockboard 1\nbegin\n\uff10 0 step\nend\n", "(U+FF10) only looks like 0"),
+    "a letter of Latin 1": (b"clockboard 1\nbegin\n0 0 step \xe9\nend\n", "byte e9h is no ASCII, and no UTF-8 either"),
+    "a vertical tab": ("clockboard 1\nbegin\n0\v0 step\nend\n", "a vertical tab stands in the line"),
+    "a byte of 0 in a line": ("clockboard 1\nbegin\n0 0 st\0ep\nend\n", "a byte 00h stands in the line"),
+    "a semicolon at the end": ("clockboard 1\nbegin\n0 0 step;\nend\n", "the line ends with ';'"),
+    "commas": ("clockboard 1\nbegin\n0,0,step\nend\n", "not by commas: 0 0 step"),
+    "ends of lines as two letters": ("clockboard 1\\nbegin\\nend\\n", "the two letters \\n stand where a line is to end"),
+}
+"""Characters that look right: the file, and the one thing that is said of it."""
+
+NUMBERS = {
+    "a count of 2^64": ("0 18446744073709551616 step", "a number is below 2^64: 18446744073709551615 is the greatest"),
+    "a value of 17 digits": ("0 0 wrmsr 10 10000000000000000", "at most 16 hexadecimal digits"),
+    "a byte of 300": ("0 0 out 43 300", "a byte is at most ff"),
+    "a binary byte": ("0 0 out 43 0b00110100", "in hexadecimal it is 34"),
+    "a letter that is no digit": ("0 0 out 43 3G", "G is no hexadecimal digit"),
+    "the letter O": ("0 O step", "the letter O stands where the digit 0 is meant"),
+    "the letter l": ("0 1l0 step", "the letter l stands where the digit 1 is meant: 110"),
+    "a processor with a sign": ("-1 0 step", "a processor is a number from 0 on, without a sign"),
+    "a time of day": ("0 00:00:01 step", "in nanoseconds it is 1000000000"),
+    "a value of a read": ("0 0 in 40 26", "a trace has no value of a read"),
+    "a write without a port": ("0 0 out 34", "`out` has a port and then a byte"),
+    "two records in a line": ("0 0 step 0 5 step", "here a second one begins: 0 5 step"),
+    "a line by its name": ("0 0 ack irq0", "a line is its number alone: 0 in place of irq0"),
+    "a vector in place of a line": ("0 0 ack 30", "names the line, and not its vector"),
+    "a timer without its number": ("0 0 counts hpet", "hpet0, hpet1 or hpet2"),
+    "begin twice": ("begin", "`begin` stands once, and line 2 is it already"),
+    "a second trace": ("0 0 step\nclockboard 1\nbegin\n0 5 step", "a second trace begins here"),
+    "a long value": (f"0 0 hw 10 4 {'0' * 120}1", "this one has 133"),
+}
+"""Lines after `begin`, and the one thing that is said of them."""
+
+HEADERS = {
+    "a policy of others": ("policy drop drop drop", "the policy `drop` is nearest to `discard` here"),
+    "libvirt's policy": ("policy delay catchup delay", "the policy `catchup` is nearest to `slew` here"),
+    "a year of four digits": ("rtc 58 59 11 03 14 11 2023", "23 in place of 2023"),
+    "a time with colons": ("rtc 11:59:58 03 14 11 23", "58 59 11 in place of 11:59:58"),
+    "milliseconds": ("wall 1700000000000 0", "1700000000 in place of 1700000000000, if that is milliseconds"),
+    "a time before 1970": ("wall -1 0", "begins with 1970"),
+    "a state with spaces": ("state 43 4c 4b 42", "leave the spaces out"),
+    "a state with a prefix": ("state 0x434c4b42", "leave 0x out"),
+    "routes in another order": ("route 8 0 38\nroute 0 0 30", "rising order of their lines, and line 8 comes before 0"),
+    "a route twice": ("route 0 0 30\nroute 0 0 31", "line 0 has a route already"),
+    "catch-up points 0 ns apart": ("slew 0", "1 to 1000000000 ns apart"),
+}
+"""Lines before `begin`, and the first thing that is said of them."""
+
+FILES = {
+    "zeros": (bytes(4096), "the file is 4096 bytes of 00 and nothing else"),
+    "a program": (b"\x7fELF\x02\x01\x01" + bytes(500), "this is a program (ELF)"),
+    "bytes of any kind": (bytes(range(256)) * 8, "this is no text: byte 0 is 00h"),
+    "bytes of a saved state": (b"CLKBOARD\x01\0\x01\0" + bytes(541), "these are the bytes of a saved state"),
+    "UTF-16 without a mark": ("clockboard 1\nbegin\nend\n".encode("utf-16-be"), "iconv -f UTF-16BE"),
+    "UTF-32": ("clockboard 1\nbegin\nend\n".encode("utf-32"), "the file is UTF-32"),
+    "xz": (lzma.compress(b"clockboard 1\nbegin\nend\n"), "the file is packed by xz: xz -dc TRACE"),
+    "bzip2": (bz2.compress(b"clockboard 1\nbegin\nend\n"), "the file is packed by bzip2"),
+    "JSON": (b'{"trace": []}\n', "this is JSON"),
+    "a wave file": (b"$timescale 1 ns $end\n", "this is a wave file"),
+    "a peer's file": (b"# What the peer answered, by the lines of the trace: ..\nstamp 1000\n", "this is a peer's file"),
+    "a page": (b"<!DOCTYPE html>\n<html>\n", "this is a page of HTML"),
+    "a patch": (b"--- a.trace\n+++ b.trace\n", "this is a patch"),
+    "a prompt": (b"$ cat t\nclockboard 1\nbegin\nend\n", "a prompt of a shell's"),
+    "Markdown": (b"```text\nclockboard 1\nbegin\nend\n```\n", "marks of Markdown"),
+    "numbers of lines": (b"1 clockboard 1\n2 begin\n3 end\n", "the lines have their numbers before them"),
+}
+"""Files that are no trace, and the one thing that is said of them."""
+
+
+def states() -> dict[str, tuple[str, str]]:
+    """Saved states that lost a part, or that have too much: the trace, and the one thing that is said of it."""
+    done = subprocess.run([support.program(), "replay", "--state"], input=b"clockboard 1\nbegin\nend\n", capture_output=True, check=True)
+    state = done.stdout.decode().split()[-1]
+    told = {
+        "a state without its end": (state[:400], "the state has 200 bytes, and one of version 1 with so many processors has 553"),
+        "a state without its head": (state[:18], "which isn't even its head"),
+        "half a byte missing": (state[:-1], "which is odd"),
+        "a byte too many": (state + "00", "the state has 554 bytes"),
+        "a state that was folded": (f"{state[:76]}\n{state[76:152]}\n{state[152:]}", "the state goes on in the next line"),
+    }
+    return {name: (f"clockboard 1\nstate {text}\nbegin\nend\n", mend) for name, (text, mend) in told.items()}
+
+
+def alone() -> dict[str, tuple[bytes, str]]:
+    """Each mistake of which one thing is said and nothing else: the file, and a part of it."""
+    texts: dict[str, tuple[str | bytes, str]] = {**CHARACTERS, **FILES, **states()}
+    texts |= {name: (f"clockboard 1\nbegin\n{line}\nend\n", mend) for name, (line, mend) in NUMBERS.items() if name != "a vector in place of a line"}
+    return {name: (text if isinstance(text, bytes) else text.encode(), mend) for name, (text, mend) in texts.items()}
+
+
 def table() -> dict[str, tuple[bytes, str]]:
     """Each mistake: the file, and a part of the mend."""
     found = {name: (trace.encode(), mend) for name, (trace, mend) in IN_THE_HEADER.items()}
     found |= {name: (f"clockboard 1\nbegin\n{line}\nend\n".encode(), mend) for name, (line, mend) in IN_A_RECORD.items()}
-    return found | WHOLE
+    found |= {name: (f"clockboard 1\n{line}\nbegin\nend\n".encode(), mend) for name, (line, mend) in HEADERS.items()}
+    found |= {name: (f"clockboard 1\nbegin\n{line}\nend\n".encode(), mend) for name, (line, mend) in NUMBERS.items()}
+    return found | WHOLE | alone()

@@ -4,6 +4,7 @@
 import hashlib
 import os
 import shutil
+import signal
 import subprocess
 import tempfile
 import time
@@ -206,22 +207,117 @@ class Tree(unittest.TestCase):
         self.assertFalse((self.top / "crates/clockboard/out/clockboard").exists())
 
     def test_unknown_words(self) -> None:
-        for script in ("build", "release", "c-library", "install"):
+        for script in ("build", "release", "c-library", "install", "test"):
             done = subprocess.run([self.top / "bin" / script, "helf"], capture_output=True, text=True, check=False,
                                   env={**os.environ, "PATH": self.path_with_rt()})
             self.assertEqual((done.returncode, done.stdout), (2, ""), script)
             self.assertIn(f"bin/{script} --help", done.stderr)
         self.assertFalse((self.top / "crates/clockboard/out/clockboard").exists())
 
-    def test_trace_that_is_named(self) -> None:
+    def stubs(self) -> None:
+        """Tests that pass, but one, and one that leaves something out, in the places of those that bin/test runs."""
+        (self.top / "crates.txt").write_text("clockboard:\nclockboard_c staticlib:\n")
+        put(self.top / "crates/clockboard_c/src/lib.rt", "one\n")
         self.release()
+        archive = self.top / "release/libclockboard-x86_64-linux.a.sources"
+        archive.write_text(subprocess.run([self.top / "bin/run-crate", "--code", "clockboard_c"], capture_output=True, text=True,
+                                          check=True).stdout)
+        for name in ("definitions", "hostile", "examples", "documents", "believe", "test_fails.py"):
+            put(self.top / "tests" / name, "#!/bin/sh\n")
+        put(self.top / "tests/c-library", "#!/bin/sh\necho 'skipped: a step (no clang)'\n")
+        put(self.top / "tests/run", "#!/bin/sh\n[ \"$2\" != test_fails ] || { echo why; exit 1; }\n"
+                                    "[ \"$2\" != test_page ] || echo \"test_x (m.T.test_x) ... skipped 'no browser'\"\n")
+
+    def ended(self, **env: str) -> tuple[int, list[str], str]:
+        done = subprocess.run([self.top / "bin/test"], capture_output=True, text=True, check=False, env={**os.environ, "PATH": PATH, **env})
+        return done.returncode, done.stdout.splitlines(), done.stderr
+
+    @unittest.skipUnless(shutil.which("gcc", path=PATH) and shutil.which("cc", path=PATH), "no gcc")
+    def test_without_rt(self) -> None:
+        self.stubs()
+        status, printed, said = self.ended()
+        self.assertEqual((status, said), (1, ""))
+        self.assertEqual(printed[-1], "12 passed, 1 failed; left out: the proofs and must-fail edits (no rt); "
+                                      "test_page: no browser; the library for C, C++ and Rust: a step (no clang)")
+        self.assertEqual(printed[-2], "why")
+
+    def test_with_rt(self) -> None:
+        self.stubs()
+        put(self.top / ".ci/run", "#!/bin/sh\necho the gate\n")
+        self.assertEqual(self.ended(PATH=self.path_with_rt()), (0, ["the gate"], ""))
+
+    def test_without_a_whole_program(self) -> None:
+        self.stubs()
+        put(self.top / "release" / NAME, "another")
+        status, printed, said = self.ended()
+        self.assertEqual((status, printed), (1, []))
+        self.assertIn("no whole program", said)
+
+    def released_that_ends(self, status: int) -> None:
+        """A released program that prints its words and ends so."""
+        shutil.copytree(support.TOOLS / "clocktools", self.top / "tools/clocktools", ignore=shutil.ignore_patterns("__pycache__"))
+        self.release()
+        text = f"#!/bin/sh\necho released\nexit {status}\n"
+        put(self.top / "release" / NAME, text)
+        (self.top / f"release/{NAME}.sha256").write_text(f"{hashlib.sha256(text.encode()).hexdigest()}  {NAME}\n")
+
+    def test_words_that_are_no_command(self) -> None:
+        self.released_that_ends(2)
         trace = self.top / "t.trace"
         trace.write_text("clockboard 1\n")
-        for job in ("replay", "race"):
-            status, printed, said = self.run_it(job, str(trace))
-            self.assertEqual(printed, "released\n")
-            self.assertEqual(said, f"clockboard: a trace comes from standard input: bin/clockboard {job} < {trace}\n")
-        self.assertEqual(self.run_it("replay", "--state"), (0, "released\n", ""))
+        for words, why in (
+                ((), "a job is missing: replay, race, gen, soak or state"),
+                (("rpelay",), "'rpelay' is no job, which is one of replay, race, gen, soak, state; is it replay?"),
+                (("--hlep",), "'--hlep' is no option; is it --help?"),
+                (("replay", "--sate"), "'--sate' is no option of replay; is it --state?"),
+                (("replay", "--state", "--state"), "--state stands twice; once is enough"),
+                (("race", "--json"), "--json is a word of replay alone"),
+                (("race", str(trace)), f"'{trace}' is one word too many: race reads its trace from standard input: "
+                                       f"bin/clockboard race < {trace}"),
+                (("gen", "1", "2"), "CPUS is missing: gen KEY RECORDS CPUS"),
+                (("gen", "1", "200001", "1"), "RECORDS is a number from 0 to 200000, and 200001 is out of that"),
+                (("soak", "x", "1", "1"), "KEY is a number from 0 to 18446744073709551615, and 'x' is none"),
+                (("soak", "1", "1", "1", "1"), "'1' is one word too many: soak KEY RECORDS CPUS"),
+                (("gen", "--state"), "'--state' is no option of gen")):
+            with self.subTest(words):
+                self.assertEqual(self.run_it(*words), (2, "released\n", f"clockboard: {why}; bin/clockboard --help has all words\n"))
+
+    def test_ends_that_fail(self) -> None:
+        for status, said in ((4, "no trace came from standard input, as reading it failed"), (5, "standard output took no more"),
+                             (6, "memory ran out"), (11, "word 2, $'\\377', isn't UTF-8")):
+            with self.subTest(status):
+                shutil.rmtree(self.top / "tools", ignore_errors=True)
+                self.released_that_ends(status)
+                done = subprocess.run([self.top / "bin/clockboard", "replay", b"\xff"], capture_output=True, check=False, stdin=subprocess.DEVNULL,
+                                      env={**os.environ, "PATH": PATH})
+                self.assertEqual((done.returncode, done.stdout), (status, b"released\n"))
+                self.assertIn(f"clockboard: {said}", done.stderr.decode())
+                self.assertEqual(done.stderr.count(b"\n"), 1)
+
+    def test_input_that_is_no_file(self) -> None:
+        self.released_that_ends(4)
+        for redirected, said in (("< /", "it is a directory"), ("<&-", "it is closed")):
+            done = subprocess.run(["sh", "-c", f"exec bin/clockboard replay {redirected}"], cwd=self.top, capture_output=True, text=True, check=False,
+                                  env={**os.environ, "PATH": PATH})
+            self.assertEqual((done.returncode, done.stdout), (4, "released\n"))
+            self.assertIn(f"no trace came from standard input, as {said}", done.stderr)
+
+    def test_a_run_that_is_stopped(self) -> None:
+        # What ends the script ends the program too, and the status says so; here also where the tests run in the background, which
+        # ignores SIGINT.
+        self.release()
+        text = "#!/bin/sh\necho begun\nexec sleep 60\n"
+        put(self.top / "release" / NAME, text)
+        (self.top / f"release/{NAME}.sha256").write_text(f"{hashlib.sha256(text.encode()).hexdigest()}  {NAME}\n")
+        for number in (signal.SIGTERM, signal.SIGINT):
+            with subprocess.Popen([self.top / "bin/clockboard", "replay"], stdout=subprocess.PIPE, stdin=subprocess.DEVNULL,
+                                  start_new_session=True, env={**os.environ, "PATH": PATH},
+                                  preexec_fn=lambda: signal.signal(signal.SIGINT, signal.SIG_DFL)) as run:
+                assert run.stdout
+                self.assertEqual(run.stdout.readline(), b"begun\n")
+                os.killpg(run.pid, number) if number == signal.SIGINT else run.send_signal(number)
+                self.assertEqual(run.wait(), 128 + number)
+                self.assertEqual(run.stdout.read(), b"")
 
     def test_wrong_checksum(self) -> None:
         self.release()

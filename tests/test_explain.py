@@ -2,6 +2,7 @@
 """tools/explain, with a program that refuses as the test says."""
 
 import importlib.machinery
+import gzip
 import importlib.util
 import tempfile
 import unittest
@@ -115,12 +116,32 @@ class Mistakes(unittest.TestCase):
         cls.tool = loaded(support.TOOLS / "explain")
 
     def test_each_has_its_mend(self) -> None:
+        alone = mistakes.alone()
         for name, (trace, mend) in mistakes.table().items():
             with self.subTest(name):
                 last = replay(trace).lines[-1]
                 self.assertTrue(last.startswith("refused "), last)
                 rows = self.tool.explanation(trace, last)
-                self.assertTrue(any(row.startswith("mend: ") and mend in row for row in rows), rows)
+                mends = [row for row in rows if row.startswith("mend: ")]
+                self.assertTrue(any(mend in row for row in mends), rows)
+                if name in alone:
+                    self.assertEqual(len(mends), 1, mends)
+
+    def test_time_bytes_that_spell_no_time(self) -> None:
+        # A trace takes each byte, so nothing is refused; what is odd is remarked.
+        done = support.run("explain", "-", text="clockboard 1\nrtc 61 59 11 00 14 11 a3\nbegin\nend\n")
+        self.assertEqual((done.returncode, done.stderr), (0, ""))
+        self.assertEqual(done.stdout.splitlines()[1:], [
+            "remark: line 2: 61 is no second, 00 is no day of the week, a3 is no year, by two decimal digits; a trace takes any "
+            "byte, and the clock counts on from it; clockboard_power_on of the C library refuses such bytes"])
+
+    def test_packed(self) -> None:
+        with tempfile.TemporaryDirectory() as folder:
+            trace = Path(folder) / "t.gz"
+            trace.write_bytes(gzip.compress(b"clockboard 1\nbegin\n0 0 setp\nend\n"))
+            done = support.run("explain", str(trace))
+        self.assertEqual(done.returncode, 3)
+        self.assertIn("is it `step`?", done.stdout)
 
     def test_no_mend_is_of_another_mistake(self) -> None:
         """What is refused for a port has nothing to do with marks, spaces or comments."""
@@ -130,7 +151,7 @@ class Mistakes(unittest.TestCase):
 
     def test_missing_trace(self) -> None:
         done = support.run("explain", "/nowhere/t")
-        self.assertEqual((done.returncode, done.stderr), (1, "explain: /nowhere/t: No such file or directory\n"))
+        self.assertEqual((done.returncode, done.stderr), (1, "explain: /nowhere/t: there is no such file\n"))
 
 
 def loaded(path: Path) -> ModuleType:

@@ -7,7 +7,7 @@ import unittest
 
 import support
 
-PROGRAM = os.environ.get("CLOCKBOARD", str(support.TOP / "bin/clockboard"))
+PROGRAM = os.environ.get("CLOCKBOARD", str(support.TOP / "release/clockboard-x86_64-linux"))
 TRACE = support.TOP / "examples/first-rise.trace"
 COMMANDS = (("replay",), ("race",), ("gen", "1", "1", "1"), ("soak", "1", "1", "1"), ("--help",), ("no", "command"))
 

@@ -64,13 +64,14 @@ class Qemu(unittest.TestCase):
             "0 70000000 hr 0 4", "0 70007000 ack 0", "end"])
 
     def test_answers(self) -> None:
-        # QEMU logs 8 bytes of the capabilities for a read of 4: the low ones are what the guest got. Each is exact to the
-        # time since its processor's line before, and 3 us: the line at 60,000 us comes 59,798 us after that at 202.
+        # QEMU logs 8 bytes of the capabilities for a read of 4: the low ones are what the guest got. A read is exact to the
+        # time since its processor's line before, and 3 us, and a write to that of the line after it: the line at 60,000 us comes
+        # 59,798 us after the write at 202.
         first = self.trace.index("0 60001000 in 71") + 1
         trace = hashlib.sha256(("\n".join(self.trace) + "\n").encode()).hexdigest()
         self.assertEqual(self.peer[1:], [
             f"trace {trace}", "stamp 1000", "rises 0 2", "rises 8 1",
-            f"{first - 4} +94000", f"{first - 3} +4000", f"{first - 2} +4000", f"{first - 1} +59801000",
+            f"{first - 4} +4000", f"{first - 3} +4000", f"{first - 2} +59801000", f"{first - 1} +4000",
             f"{first} c0 +4000", f"{first + 3} 8086a201 +9999000"])
 
     def test_dropped(self) -> None:
@@ -97,6 +98,39 @@ class Qemu(unittest.TestCase):
     def test_packed(self) -> None:
         trace, _ = imported_text(gzip.compress((support.LOGS / "qemu.log").read_bytes()))
         self.assertEqual(trace, self.trace)
+
+
+class Writes(unittest.TestCase):
+    """QEMU logs a write before it acts, so its time is known to that of its processor's next line."""
+
+    def answers(self, log: str) -> list[str]:
+        with tempfile.TemporaryDirectory() as folder:
+            path, out = Path(folder) / "log", Path(folder) / "out"
+            path.write_text(log)
+            self.assertEqual(support.run("import", "qemu", str(path), str(out)).returncode, 0)
+            lines = (Path(folder) / "out.peer").read_text().splitlines()
+        return [line.split(" ", 1)[1] for line in lines if line[0].isdigit()]
+
+    def test_of_several_processors(self) -> None:
+        # The write of processor 0 at 10 us may act until its line at 500 us, whatever processor 1 does meanwhile. No line
+        # follows its last write, which may act to the end of the log.
+        log = access(0, "read", 0, 0x61, 0, "pcspk") + access(10, "write", 0, 0x61, 1, "pcspk")
+        log += access(20, "write", 1, 0x43, 0xB0, "pit") + access(22, "read", 1, 0x42, 0, "pit")
+        log += access(500, "write", 0, 0x61, 0, "pcspk") + access(900, "read", 1, 0x61, 0, "pcspk")
+        self.assertEqual(self.answers(log), ["00 +3000", "+493000", "+5000", "00 +5000", "+403000", "00 +881000"])
+
+    def test_of_other_regions(self) -> None:
+        # Any line of the processor says that the write before it has acted.
+        log = access(10, "write", 0, 0x61, 1, "pcspk") + access(15, "write", 0, 0x80, 1, "elsewhere")
+        log += access(900, "read", 0, 0x61, 0, "pcspk")
+        self.assertEqual(self.answers(log), ["+8000", "00 +888000"])
+
+    def test_that_wait(self) -> None:
+        # 16,384 answers wait at most: then the write is exact to the time until then.
+        log = access(0, "write", 1, 0x43, 0xB0, "pit")
+        log += "".join(access(at, "read", 0, 0x61, 0, "pcspk") for at in range(1, 20001)) + access(20001, "read", 1, 0x42, 0, "pit")
+        found = self.answers(log)
+        self.assertEqual((len(found), found[0], found[1]), (20002, "+16387000", "00 +4000"))
 
 
 class Processors(unittest.TestCase):
@@ -213,7 +247,7 @@ class Unusable(unittest.TestCase):
     def test_broken_gz(self) -> None:
         _, done = imported_text(gzip.compress(b"a line\n" * 1000)[:-20])
         self.assertEqual(done.returncode, 1)
-        self.assertIn("its gz data are broken", done.stderr)
+        self.assertIn("its gzip data are broken", done.stderr)
 
     def test_no_file(self) -> None:
         for log, out in (("/no/such/log", "/tmp/out"), ("/", "/tmp/out"), (str(support.LOGS / "qemu.log"), "/no/such/out")):
@@ -254,9 +288,9 @@ class Kvm(unittest.TestCase):
             "1 1004009000 ack 0", "0 1004010100 wrmsr 10 0", "0 1004011000 rdmsr 3b", "end"])
 
     def test_answers(self) -> None:
-        # Exact to the time since the thread's event before, or the log's first, at 2 counts a nanosecond, and 3 us.
+        # Exact to the time since the thread's event before, of a write to that of the one after, at 2 counts a nanosecond, and 3 us.
         values = [line.split(" ", 1)[1] for line in self.peer if line[0].isdigit()]
-        self.assertEqual(values, ["+2003000", "7f +4000", "00000012 +3500", "2 3921616 2000000 80000000 0 01 +3500",
+        self.assertEqual(values, ["+4000", "7f +4000", "00000012 +3500", "2 3921616 2000000 80000000 0 01 +3500",
                                   "0000000000000005 +3450"])
 
     def test_local_apic_and_hyper_v(self) -> None:

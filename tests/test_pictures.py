@@ -104,7 +104,7 @@ class OtherInput(unittest.TestCase):
     """What isn't a printed text is told in one line, by each picture."""
 
     def test_told(self) -> None:
-        for text, told in ((TRACE, "this is a trace"), ("", "standard input is empty"), ("<html>\n", "begins with: <html>"),
+        for text, told in ((TRACE, "this is a trace"), ("", "standard input: it is empty"), ("<html>\n", "begins with: <html>"),
                            ("usage: clockboard replay\n", "printed its usage")):
             for tool in ("diagram", "wave"):
                 with self.subTest(tool, text=text):

@@ -67,7 +67,8 @@ class Runs:
         while (at := self.following(at, ran["state"])) <= start + length:
             count += 1
             if count > self.most:
-                raise Gap(f"more than {self.most} nanoseconds to compute")
+                raise Gap(f"a record passes a time with more than {self.most:,} nanoseconds in which something falls, the most that are computed; "
+                          "part the time by shorter ones, or take a trace of less time")
             ran = self.all.value(RUN, "onward", at, ran)
             yield ran
 

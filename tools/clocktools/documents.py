@@ -5,7 +5,7 @@ import re
 from dataclasses import dataclass
 from functools import cache
 
-from .program import TOP
+from .command import TOP
 
 DEFINITIONS = TOP / "docs" / "DEFINITIONS.md"
 FORMATS = TOP / "docs" / "FORMATS.md"

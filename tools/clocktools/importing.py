@@ -3,7 +3,7 @@
 
 import hashlib
 import tempfile
-from collections import Counter
+from collections import Counter, deque
 from collections.abc import Iterator
 from dataclasses import dataclass, field
 from itertools import chain
@@ -22,12 +22,14 @@ FORMAT_2_CPUS = 64
 FORMAT_2_TIMERS = 0x160
 """From this offset on the HPET's registers belong to timers that format 1 hasn't."""
 LATE_NS = 3000
-"""A line of a log comes so much after the access at most, beyond the time since its processor's line before."""
+"""A log's times are exact to so much, beyond the time to the line before or after of the same processor."""
+WAITING = 1 << 14
+"""So many answers wait for the line after a write at most."""
 
 
 class Access(NamedTuple):
     """An access of a processor: at which count, to how many bytes from an address on, and the value; and to how many
-    nanoseconds its time is exact."""
+    nanoseconds the time of a read is exact. A write is logged before it acts, so it is exact to its processor's next line."""
 
     cpu: int
     count: int
@@ -65,6 +67,67 @@ class Header:
 
 
 @dataclass
+class Answer:
+    """A line of the file of answers: the record's line, what the peer answered, and to how many nanoseconds its time is exact.
+    Of a write that isn't known before its processor's next line."""
+
+    line: int
+    value: str
+    within: int | None
+    written: int | None = None
+    """When the write was logged whose processor's next line is waited for."""
+
+    def text(self) -> str:
+        told = [str(self.line), self.value, "" if self.within is None else f"+{self.within}"]
+        return " ".join(filter(None, told)) + "\n"
+
+
+class Answers:
+    """The answers in order of their records, on their way into a file without a name."""
+
+    def __init__(self, folder: Path) -> None:
+        self.file: IO[bytes] = tempfile.TemporaryFile(dir=folder)
+        self.waiting: deque[Answer] = deque()
+        self.open: dict[int, Answer] = {}
+        """The last write of each processor that has had no line since."""
+        self.now = 0
+
+    def put(self, cpu: int, answer: Answer) -> None:
+        if answer.written is not None:
+            self.open[cpu] = answer
+        elif not answer.value and answer.within is None:
+            return
+        self.waiting.append(answer)
+        if len(self.waiting) > WAITING:
+            first = self.waiting[0]
+            self.close(next((cpu for cpu, own in self.open.items() if own is first), -1))
+        self.write()
+
+    def next_line(self, cpu: int, now: int) -> None:
+        """The log has a line of this processor, at this nanosecond: what it wrote before has acted."""
+        self.now = now
+        self.close(cpu)
+
+    def close(self, cpu: int) -> None:
+        answer = self.open.pop(cpu, None)
+        if answer and answer.written is not None:
+            answer.within = self.now - answer.written + LATE_NS
+
+    def write(self) -> None:
+        """Writes the answers whose times are known, up to the first that waits."""
+        while self.waiting and (self.waiting[0].written is None or self.waiting[0].within is not None):
+            self.file.write(self.waiting.popleft().text().encode())
+
+    def end(self) -> IO[bytes]:
+        """The file, from its beginning, with all answers."""
+        for cpu in list(self.open):
+            self.close(cpu)
+        self.write()
+        self.file.seek(0)
+        return self.file
+
+
+@dataclass
 class Import:
     """What is seen of a peer, in order of its counts, on its way into two files; and what was dropped, by its cause.
 
@@ -87,21 +150,19 @@ class Import:
 
     def __post_init__(self) -> None:
         self.body: IO[bytes] = tempfile.TemporaryFile(dir=self.folder)
-        self.answers: IO[bytes] = tempfile.TemporaryFile(dir=self.folder)
+        self.answers = Answers(self.folder)
 
     def drop(self, cause: str) -> None:
         self.dropped[cause] += 1
 
-    def see(self, cpu: int, count: int, words: str, answer: str = "", within: int | None = None) -> None:
-        """A record: its processor, its count, its words, what the peer answered, and to how many nanoseconds
-        its time is exact."""
+    def see(self, cpu: int, count: int, words: str, answer: str = "", within: int | None = None, is_write: bool = False) -> None:
+        """A record: its processor, its count, its words, what the peer answered, and to how many nanoseconds its time is
+        exact; of a write that is logged before it acts the next line of its processor tells."""
         if cpu >= FORMAT_2_CPUS:
             self.drop(f"a processor from {FORMAT_2_CPUS} on")
             return
         self.body.write(f"{cpu} {count} {words}\n".encode())
-        told = [word for word in (answer, "" if within is None else f"+{within}") if word]
-        if told:
-            self.answers.write(f"{self.first_line + self.records} {' '.join(told)}\n".encode())
+        self.answers.put(cpu, Answer(self.first_line + self.records, answer, within, self.answers.now if is_write else None))
         self.records += 1
         if cpu >= self.processors:
             self.processors = cpu + 1
@@ -122,7 +183,7 @@ class Import:
             self.drop(f"an access of {size} bytes to a port")
         elif is_write:
             self.clock.write(port, byte)
-            self.see(cpu, count, f"out {port:x} {byte:02x}", within=within)
+            self.see(cpu, count, f"out {port:x} {byte:02x}", is_write=True)
         else:
             self.clock.read(port, byte, count)
             self.see(cpu, count, f"in {port:x}", f"{byte:02x}", within)
@@ -139,7 +200,7 @@ class Import:
             return
         value &= (1 << 8 * size) - 1
         if is_write:
-            self.see(cpu, count, f"hw {offset:x} {size} {value:x}", within=within)
+            self.see(cpu, count, f"hw {offset:x} {size} {value:x}", is_write=True)
         else:
             self.see(cpu, count, f"hr {offset:x} {size}", f"{value:0{2 * size}x}", within)
         if offset >= FORMAT_2_TIMERS:
@@ -160,8 +221,7 @@ class Import:
                     f"trace {sum_of.hexdigest()}", f"stamp {self.stamp_ns}",
                     *(f"rises {line} {count}" for line, count in sorted(self.rises.items()))]
             out.write(("\n".join(head) + "\n").encode())
-            self.answers.seek(0)
-            copyfileobj(self.answers, out)
+            copyfileobj(self.answers.end(), out)
 
 
 def pieces(file: IO[bytes]) -> Iterator[bytes]:

@@ -66,6 +66,7 @@ class RtcJudge:
     alarm: int = 0
     """The alarm's second."""
     flags_read: int = 0
+    alarm_written: int = 0
     was_silent: bool = True
     """PIE was 0 at some time since register C was read."""
     own_time: dict[int, tuple[int, int]] = field(default_factory=dict)
@@ -83,7 +84,7 @@ class RtcJudge:
             self.was_silent |= not byte & PF
             self.b = byte
         elif self.index == ALARM:
-            self.alarm = byte
+            self.alarm, self.alarm_written = byte, time
         elif self.index in TIMES:
             self.phase, self.is_reformed = Phase(), False
             self.own_time.clear()
@@ -121,7 +122,7 @@ class RtcJudge:
         ahead = peer - own
         if self.index == SECOND:
             ahead = (ahead + 30) % 60 - 30
-            if abs(ahead) <= 1 and not self.is_reformed:
+            if abs(ahead) <= 1 and not self.is_reformed and read.is_answered:
                 return self.second(rule, read, ahead)
         if not read.mask:
             return []
@@ -149,11 +150,11 @@ class RtcJudge:
         return second in (58, 59, 0, 1) and all(self.own_time.get(index, (None,))[0] in ENDS[index] for index in below)
 
     def second_at(self, time: int) -> int | None:
-        """About the board's second, if a read has shown one."""
+        """The board's second, if a read has shown one."""
         if SECOND not in self.own_time:
             return None
         value, read_at = self.own_time[SECOND]
-        return (value + (time - read_at) // SECOND_NS) % 60
+        return (value + (time - self.turned) // SECOND_NS - (read_at - self.turned) // SECOND_NS) % 60
 
     def has_turned(self, read: Read, since: int) -> bool:
         """Whether the peer's second may have turned in so long a time before a read."""
@@ -162,14 +163,29 @@ class RtcJudge:
         return any(self.phase.least + turn <= end and begin <= self.phase.greatest + turn
                    for turn in range(-SECOND_NS, 3 * SECOND_NS, SECOND_NS))
 
-    def update_flags(self, read: Read, since: int) -> int:
-        """The flags of an update that may differ, since the second turns at another time there: only where one turned, and
-        AF only where that second may be the alarm's."""
+    def update_flag(self, read: Read, since: int) -> int:
+        """UF, if it may differ since the second turns at another time there: only where one turned since the last read."""
         if since >= SECOND_NS + read.within or not read.own & UF and not self.has_turned(read, since):
             return 0
+        return UF
+
+    def may_miss_alarm(self, read: Read, since: int) -> bool:
+        """Whether AF may differ, since the alarm's second begins at another time there: only where it began here or there
+        around one of the two reads and not the other."""
         second, alarm = self.second_at(read.time), number_of(self.alarm, self.b)
-        may_match = self.alarm >= DONT_CARE or second is None or (second - alarm + 1) % 60 <= 2
-        return UF | AF if may_match else UF
+        if self.alarm >= DONT_CARE or second is None:
+            return bool(self.update_flag(read, since))
+        begin, end = max(read.time - since, self.alarm_written), read.time
+        turned = end - self.since_turn(end) - (second - alarm) % 60 * SECOND_NS
+        for turn in (turned, turned + 60 * SECOND_NS):
+            least, greatest = turn + self.phase.least - read.within, turn + self.phase.greatest + read.within
+            if read.own & AF:
+                differs = begin < turn <= end and (greatest > end or least <= begin)
+            else:
+                differs = least <= end and greatest > begin
+            if differs:
+                return True
+        return False
 
     def update_in_progress(self, rule: Rule, read: Read) -> list[Part]:
         before_turn = SECOND_NS - self.since_turn(read.time)
@@ -201,7 +217,9 @@ class RtcJudge:
             explained.append((PF, PERIODIC))
         elif rate and since < period + read.within:
             explained.append((PF, DIVIDER))
-        explained.append((self.update_flags(read, since), DIVIDER))
+        explained.append((self.update_flag(read, since), DIVIDER))
+        if self.may_miss_alarm(read, since):
+            explained.append((AF, DIVIDER))
         if bool(read.peer & IRQF) == bool(read.peer & self.b & 0x70):
             mask &= ~IRQF
         return by_bits(rule, mask, explained)

@@ -37,6 +37,8 @@ class Read:
     within: int
     own: int
     peer: int
+    is_answered: bool = True
+    """Whether the peer's answer is known; else it is taken for the board's."""
 
     @property
     def mask(self) -> int:

@@ -1,5 +1,7 @@
 # SPDX-License-Identifier: Apache-2.0 OR MIT
-"""KVM's tracepoints, as an ftrace instance with the clock `x86-tsc` prints them. The host's counter is the TSC itself.
+"""KVM's tracepoints, as an ftrace instance, `perf script` and `trace-cmd report` print them. With the clock `x86-tsc` the host's
+counter is the TSC itself; a log whose times are seconds has a counter of nanoseconds, and what the guest's TSC depends on is
+dropped.
 
 Read are kvm_pio, kvm_mmio, kvm_msr, kvm_ack_irq, kvm_eoi, kvm_pvclock_update, kvm_write_tsc_offset, and the marks that
 tools/kvm-record puts at the beginning and the end, from which the TSC's rate is known. A log is read twice: first for
@@ -16,22 +18,28 @@ from pathlib import Path
 from .grammar import MSRS as FIRST_FORMATS
 from .importing import HPET_BASE, HPET_SIZE, LATE_NS, PORTS, Access, Import
 from .interrupts import IOAPIC_LINES, PIC_LINES
-from .logs import Unusable
+from .files import Unusable
 
-EVENT = re.compile(r"^\s*(.+?)-(\d+)\s+(?:\([^)]*\)\s+)?\[\d+\]\s+(?:\S+\s+)?(\d+)(\.\d+)?: (\w+): (.*)$")
+EVENT = re.compile(r"^\s*(.+?)(?:-|\s+(?:\d+/)?)(\d+)\s+(?:\([^)]*\)\s+)?\[\d+\]\s+(?:[^\s:]+\s+)?"
+                   r"(\d+)(?:\.(\d+))?:\s+(?:kvm:)?(\w+):\s+(.*)$")
+"""The thread's name and number, the processor, flags, the time, the event and its text. ftrace and trace-cmd print NAME-NUMBER, perf
+NAME NUMBER or NAME PROCESS/NUMBER, and the event behind its system."""
+NS_DIGITS = 9
 MARK = re.compile(r"clockboard real (\d+) raw (\d+)")
 PIO = re.compile(r"pio_(read|write) at 0x([0-9a-f]+) size (\d+) count (\d+) val 0x([0-9a-f]+)")
 MMIO = re.compile(r"mmio (read|write|unsatisfied-read) len (\d+) gpa 0x([0-9a-f]+) val 0x([0-9a-f]+)")
 MSR = re.compile(r"msr_(read|write) ([0-9a-f]+) = 0x([0-9a-f]+)( \(#GP\))?")
 ACK = re.compile(r"irqchip (IOAPIC|PIC master|PIC slave) pin (\d+)")
-EOI = re.compile(r"apicid ([0-9a-f]+) vector (\d+)")
+EOI = re.compile(r"apicid ([0-9a-f]+) vector (-?\d+)")
 PVCLOCK = re.compile(
     r"vcpu_id (\d+), pvclock \{ version (\d+), tsc_timestamp 0x([0-9a-f]+), system_time 0x([0-9a-f]+), "
     r"tsc_to_system_mul 0x([0-9a-f]+), tsc_shift (-?\d+), flags 0x([0-9a-f]+) \}"
 )
 OFFSET = re.compile(r"vcpu=(\d+) prev=(\d+) next=(\d+)")
 THREAD = re.compile(r"CPU (\d+)/KVM")
-TSC, TSC_ADJUST, STEAL, LVT_TIMER = 0x10, 0x3B, 0x4B564D03, 0x832
+TSC, TSC_ADJUST, DEADLINE, STEAL, LVT_TIMER = 0x10, 0x3B, 0x6E0, 0x4B564D03, 0x832
+TSC_MSRS = (TSC, TSC_ADJUST, DEADLINE)
+NS_KHZ = 1_000_000
 MSRS = {0x11: 0x4B564D00, 0x12: 0x4B564D01, **{msr: msr for msr in FIRST_FORMATS}}
 """The MSRs of a trace, and the two old numbers of kvmclock, which mean the same as the new ones."""
 VCPU_EVENTS = ("kvm_pio", "kvm_mmio", "kvm_msr", "kvm_pvclock_update")
@@ -50,6 +58,8 @@ class Event:
     count: int
     kind: str
     text: str
+    stamp_ns: int = 0
+    """To how many nanoseconds its time is told, where that is in seconds."""
 
 
 def events(lines: Iterable[bytes]) -> Iterator[Event]:
@@ -57,10 +67,12 @@ def events(lines: Iterable[bytes]) -> Iterator[Event]:
     for line in lines:
         if b"kvm_" not in line and b"tracing_mark" not in line or line.startswith(b"#"):
             continue
-        match = EVENT.match(line.decode("utf-8", "replace").rstrip("\n"))
-        if match:
-            if match[4]:
-                raise Unusable("its times are seconds: the instance's trace_clock must be x86-tsc")
+        match = EVENT.match(line.decode("utf-8", "replace").rstrip())
+        if match and match[4]:
+            part = match[4][:NS_DIGITS]
+            count = int(match[3]) * 10**NS_DIGITS + int(part.ljust(NS_DIGITS, "0"))
+            yield Event(match[1], int(match[2]), count, match[5], match[6], 10 ** (NS_DIGITS - len(part)))
+        elif match:
             yield Event(match[1], int(match[2]), int(match[3]), match[5], match[6])
 
 
@@ -102,12 +114,17 @@ class Survey:
     """By thread and count the offsets that a write of the TSC or of TSC_ADJUST explains, which follows in the thread."""
     kinds: int = 0
     """How many events were of a kind that is read."""
+    stamp_ns: int = 0
+    """To how many nanoseconds times are told, where they are seconds; 0 where they are counts of the TSC."""
 
     def read(self, found: Iterable[Event]) -> "Survey":
         unnamed: dict[int, None] = {}
         offsets: dict[int, Event] = {}
         for event in found:
+            if self.kinds and event.kind in READ_EVENTS and event.stamp_ns != self.stamp_ns:
+                raise Unusable("its times are of two kinds, seconds and counts of the TSC: give one log at a time")
             self.kinds += event.kind in READ_EVENTS
+            self.stamp_ns = event.stamp_ns
             self.name(event, unnamed)
             self.mark(event)
             before = offsets.pop(event.thread, None)
@@ -137,12 +154,27 @@ class Survey:
         elif event.kind == "kvm_pvclock_update" and self.page_khz is None:
             match = PVCLOCK.match(event.text)
             if match:
-                self.page_khz = round(Fraction(1_000_000 * 2**32, int(match[5], 16)) / Fraction(2) ** int(match[6]))
+                self.page_khz = round(Fraction(1_000_000 * 2**32, int(match[5], 16)) / Fraction(2) ** shift_of(match[6]))
+
     def khz(self) -> int | None:
-        """The rate of the host's TSC: as KVM scales its pages, or else by the marks."""
+        """The rate of the host's counter: of its TSC as KVM scales its pages, or else by the marks; of a log in seconds that of
+        nanoseconds."""
+        if self.stamp_ns:
+            return NS_KHZ
         if self.page_khz is None and len(self.marks) > 1:
             return khz_between(self.marks[0], self.marks[-1])
         return self.page_khz
+
+
+def shift_of(text: str) -> int:
+    """A page's shift, a signed byte, which perf prints without its sign."""
+    return (int(text) + 128) % 256 - 128
+
+
+def needs_tsc(event: Event) -> bool:
+    """Whether an event's value is one of the guest's TSC."""
+    match = MSR.match(event.text) if event.kind == "kvm_msr" else None
+    return event.kind in ("kvm_write_tsc_offset", "kvm_pvclock_update") or bool(match and int(match[2], 16) in TSC_MSRS)
 
 
 def is_write_of_tsc(event: Event) -> bool:
@@ -157,7 +189,7 @@ class Reader:
         self.survey = survey
         self.host_khz = host_khz
         self.ratio = guest_khz * 2**48 // host_khz
-        self.found = Import(SOURCE, folder, first_line)
+        self.found = Import(SOURCE, folder, first_line, stamp_ns=max(survey.stamp_ns, 1))
         self.before: dict[int, int] = {}
         """The count of the line before of each thread."""
         self.timer_vectors: dict[int, int] = {}
@@ -170,14 +202,18 @@ class Reader:
         for event in in_order(found):
             first = event.count if first is None else first
             since = event.count - self.before.get(event.thread, first)
-            self.within = since * 1_000_000 // self.host_khz + LATE_NS
+            self.within = since * 1_000_000 // self.host_khz + LATE_NS + self.survey.stamp_ns
             self.before[event.thread] = event.count
+            cpu = self.survey.threads.get(event.thread, -1)
+            self.found.answers.next_line(cpu, event.count * 1_000_000 // self.host_khz)
             self.event(event)
         return self.found
 
     def event(self, event: Event) -> None:
         records = self.found.records
-        if event.kind == "kvm_write_tsc_offset":
+        if self.survey.stamp_ns and needs_tsc(event):
+            self.found.drop(f"{event.kind} of the guest's TSC, which a log with times in seconds can't place: take trace_clock x86-tsc")
+        elif event.kind == "kvm_write_tsc_offset":
             self.offset(event)
         elif event.kind == "kvm_pvclock_update":
             self.pvclock(event)
@@ -256,7 +292,7 @@ class Reader:
         cpu = int(match[1])
         stamp, system, mul, flags = (int(match[k], 16) for k in (3, 4, 5, 7))
         self.see(cpu, event, f"refresh {cpu}")
-        self.see(cpu, event, f"page {cpu}", f"{match[2]} {stamp} {system} {mul:08x} {match[6]} {flags:02x}")
+        self.see(cpu, event, f"page {cpu}", f"{match[2]} {stamp} {system} {mul:08x} {shift_of(match[6])} {flags:02x}")
 
     def offset(self, event: Event) -> None:
         """An offset that no write of the TSC or of TSC_ADJUST explains was set by the host: the guest's TSC is written

@@ -1,59 +1,32 @@
 # SPDX-License-Identifier: Apache-2.0 OR MIT
-"""Reading a log: line by line, unpacked where it is gz, with its progress, and what a file looks like that is none."""
+"""Reading a log line by line, with its progress, and what a file looks like that is none."""
 
-import gzip
 import re
 import sys
-import tempfile
 from collections.abc import Iterator
-from contextlib import contextmanager
 from pathlib import Path
-from shutil import copyfileobj
-from typing import BinaryIO, TextIO
+from typing import TextIO
+
+from .files import opened, unbroken
 
 HEAD = 1 << 16
 """So many bytes show what a file is."""
 SHOWN_EVERY = 1 << 16
 """The progress is shown after so many lines."""
 PACKED = {b"\xfd7zXZ": "xz", b"\x28\xb5\x2f\xfd": "zstd", b"BZh": "bzip2", b"PK\x03\x04": "zip"}
-GZ = b"\x1f\x8b"
 QEMU_ACCESS = b"memory_region_ops_"
-KVM_EVENT = re.compile(rb"\[\d+\].*: kvm_\w+: ")
-
-
-class Unusable(Exception):
-    """A file can't be read as what it should be, for a reason that its reader can mend."""
-
-
-@contextmanager
-def regular(path: Path) -> Iterator[Path]:
-    """The file itself, or, of a pipe, a file of what it gives, which can be read more than once."""
-    if path.is_file():
-        yield path
-        return
-    with tempfile.NamedTemporaryFile() as copy, path.open("rb") as source:
-        copyfileobj(source, copy)
-        copy.flush()
-        yield Path(copy.name)
-
-
-def unpacked(raw: BinaryIO) -> BinaryIO:
-    """What a file holds, which may be packed as gz. A pipe is taken as it is where it can't be looked into."""
-    peek = getattr(raw, "peek", None)
-    return gzip.open(raw) if peek and peek(2)[:2] == GZ else raw  # type: ignore[return-value]
+KVM_EVENT = re.compile(rb"\[\d+\].*:\s+(kvm:)?kvm_\w+:\s")
 
 
 def lines(path: Path, job: str) -> Iterator[bytes]:
     """The lines of a log. Where standard error is a terminal, how far it has come is shown there."""
-    with path.open("rb") as raw:
-        size = path.stat().st_size if path.is_file() and sys.stderr.isatty() else 0
+    size = path.stat().st_size if path.is_file() and sys.stderr.isatty() else 0
+    with opened(path) as file, unbroken(path):
         try:
-            for number, line in enumerate(unpacked(raw), 1):
+            for number, line in enumerate(file, 1):
                 if size and number % SHOWN_EVERY == 0:
-                    show(job, raw.tell(), size)
+                    show(job, getattr(file, "fileobj", file).tell(), size)
                 yield line
-        except (EOFError, gzip.BadGzipFile) as fault:
-            raise Unusable(f"its gz data are broken: {fault}") from fault
         finally:
             if size:
                 clear()
@@ -85,8 +58,8 @@ def clear() -> None:
 
 def looks_like(path: Path) -> str:
     """What a file looks like, by its first bytes."""
-    with path.open("rb") as raw:
-        head = unpacked(raw).read(HEAD)
+    with opened(path) as file:
+        head = file.read(HEAD)
     packer = next((name for magic, name in PACKED.items() if head.startswith(magic)), None)
     if not head:
         return "it is empty"

@@ -7,7 +7,7 @@ from dataclasses import dataclass, field
 from pathlib import Path
 from typing import BinaryIO
 
-from .logs import Unusable
+from .command import Refused, shown
 
 
 @dataclass(frozen=True)
@@ -29,6 +29,9 @@ class Peer:
     """The head of a peer's file, and its answers in order of the trace's lines."""
 
     path: Path
+    """What its user calls it."""
+    file: Path
+    """Where its lines are, unpacked."""
     trace: str | None = None
     """The sha256 of the trace that it belongs to, if it names it."""
     stamp_ns: int = 1
@@ -47,13 +50,13 @@ class Peer:
 
     def lines(self) -> Iterator[list[str]]:
         """The words of each line, all well formed."""
-        with self.path.open(encoding="utf-8", errors="replace") as file:
+        with self.file.open(encoding="utf-8", errors="replace") as file:
             for number, text in enumerate(file, 1):
                 words = text.rstrip("\n").split(" ")
                 if text.startswith("#") or words == [""]:
                     continue
                 if not is_line(words):
-                    raise Unusable(f"line {number} is malformed: {text[:60].rstrip()}")
+                    raise Refused(f"{shown(self.path)}: line {number} is malformed: {text[:60].rstrip()}")
                 yield words
 
     def answers(self) -> Iterator[Answer]:
@@ -64,19 +67,19 @@ class Peer:
                 continue
             line = int(words[0])
             if line <= last:
-                raise Unusable(f"the answer to line {line} doesn't follow that to a line before it")
+                raise Refused(f"{shown(self.path)}: the answer to line {line} doesn't follow that to a line before it")
             last = line
             told = words[-1].startswith("+")
             within = int(words[-1][1:]) if told else self.stamp_ns
             yield Answer(line, tuple(words[1:-1] if told else words[1:]), within)
 
-    def check(self, trace: Path) -> None:
-        """Refuses the answers of another trace."""
+    def check(self, name: Path, trace: Path) -> None:
+        """Refuses the answers of another trace than this one of that name."""
         if self.trace is None:
             return
         with trace.open("rb") as file:
             if sum_of(file) != self.trace.lower():
-                raise Unusable(f"it has the answers of another trace than {trace}: import both again")
+                raise Refused(f"{shown(self.path)}: it has the answers of another trace than {shown(name)}: import both again")
 
 
 def sum_of(file: BinaryIO) -> str:

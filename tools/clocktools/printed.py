@@ -2,9 +2,10 @@
 """What the program prints for a trace, as the pictures take it: it is looked at before, as a trace is often given instead."""
 
 import re
-import sys
+from pathlib import Path
 
 from .command import Refused
+from .files import name_of, read
 
 PRINTED = re.compile(r"edge \d+ \d+ (up|down)|msg \d+ |\d+ \S|final |refused |fault |state |soak |usage: ")
 """How a printed line begins."""
@@ -14,11 +15,11 @@ def kind_fault(lines: list[str]) -> str:
     """Why these lines aren't a printed text; nothing, if they are one."""
     said = [line for line in lines if line and not line.startswith("#")]
     if not said:
-        return "standard input is empty; it takes what bin/clockboard replay prints"
+        return "it is empty; what bin/clockboard replay prints is wanted"
     if re.match(r"clockboard \d+$", said[0]) or "begin" in said[:12]:
         return "this is a trace, and what is printed for it is wanted: bin/clockboard replay < TRACE | .."
     if said[0].startswith("$"):
-        return "this is a wave file; it takes what bin/clockboard replay prints"
+        return "this is a wave file, and what bin/clockboard replay prints is wanted"
     if not any(PRINTED.match(line) for line in said):
         return f"this is nothing that bin/clockboard replay prints; it begins with: {said[0][:60]}"
     if said[0].startswith("usage: "):
@@ -26,12 +27,10 @@ def kind_fault(lines: list[str]) -> str:
     return ""
 
 
-def read_printed() -> list[str]:
-    """The lines of a printed text on standard input."""
-    if sys.stdin is None:
-        raise Refused("standard input is closed; it takes what bin/clockboard replay prints")
-    lines = sys.stdin.buffer.read().decode("utf-8", "replace").splitlines()
+def read_printed(path: Path) -> list[str]:
+    """The lines of a printed text."""
+    lines = read(path).decode("utf-8", "replace").splitlines()
     fault = kind_fault(lines)
     if fault:
-        raise Refused(fault)
+        raise Refused(f"{name_of(path)}: {fault}")
     return lines

@@ -6,8 +6,9 @@ import subprocess
 from collections.abc import Iterator
 from dataclasses import dataclass
 from pathlib import Path
+from typing import IO
 
-TOP = Path(__file__).resolve().parents[2]
+from .command import TOP, Refused, shown
 
 
 @dataclass(frozen=True)
@@ -23,18 +24,27 @@ def program() -> str:
     return os.environ.get("CLOCKBOARD") or str(TOP / "bin" / "clockboard")
 
 
-def replay(trace: bytes) -> Answer:
-    """Replays a trace. What the program says on standard error goes to ours."""
-    done = subprocess.run([program(), "replay"], input=trace, stdout=subprocess.PIPE, check=False)
-    return Answer(done.returncode, done.stdout.decode("utf-8", "replace").splitlines())
+def started(words: list[str], source: IO[bytes] | int) -> subprocess.Popen[bytes]:
+    """The program with these words. What it says on standard error goes to ours."""
+    try:
+        return subprocess.Popen([program(), *words], stdin=source, stdout=subprocess.PIPE)
+    except OSError as fault:
+        raise Refused(f"the program {shown(program())} can't be run: {fault.strerror}; CLOCKBOARD may name another") from fault
+
+
+def replay(trace: bytes, *words: str) -> Answer:
+    """Replays a trace."""
+    with started(["replay", *words], subprocess.PIPE) as process:
+        printed, _ = process.communicate(trace)
+    return Answer(process.returncode, printed.decode("utf-8", "replace").splitlines())
 
 
 class Replaying:
     """A replay whose lines are read as they come. Its status is known after the last of them."""
 
-    def __init__(self, trace: Path) -> None:
+    def __init__(self, trace: Path, *words: str) -> None:
         with trace.open("rb") as source:
-            self.process = subprocess.Popen([program(), "replay"], stdin=source, stdout=subprocess.PIPE)
+            self.process = started(["replay", *words], source)
         self.last = ""
 
     def lines(self) -> Iterator[str]:

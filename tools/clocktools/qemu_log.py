@@ -3,24 +3,26 @@
 
     -msg timestamp=on -d int -trace 'memory_region_ops_*' -D LOG
 
-as QEMU 7.2 writes it. The times are the host's clock in microseconds. A log that lacks `-d int` tells of no vectors,
-and no end of interrupt in it acknowledges anything.
+as QEMU 7.2 writes it, with PID@SECONDS.MICROSECONDS before the event, or with a date before it, as a later one may. The times are
+the host's clock in microseconds. A log that lacks `-d int` tells of no vectors, and no end of interrupt in it acknowledges anything.
 """
 
 import re
 from collections.abc import Iterable
+from datetime import datetime, timezone
 from pathlib import Path
 
+from .files import Unusable
 from .importing import LATE_NS, Access, Import
 from .interrupts import Interrupts
-from .logs import QEMU_ACCESS, Unusable
+from .logs import QEMU_ACCESS
 
 ACCESS = re.compile(
-    rb"^(?:\d+@(\d+)\.(\d{6}):)?memory_region_ops_(read|write) cpu (-?\d+) mr \S+ "
+    rb"^(?:\d+@(\d+)\.(\d{6}):|(\d{4}-\d\d-\d\dT\d\d:\d\d:\d\d)\.(\d{6})\d*Z? .*?)?memory_region_ops_(read|write) cpu (-?\d+) mr \S+ "
     rb"addr 0x([0-9a-f]+) value 0x([0-9a-f]+) size (\d+) name '([^']*)'"
 )
 SERVICING = b"Servicing hardware"
-VECTOR = re.compile(rb"^Servicing hardware INT=0x([0-9a-f]{2})")
+VECTOR = re.compile(rb"^(?:.*? )?Servicing hardware INT=0x([0-9a-f]{2})")
 PORT_REGIONS = (b"pit", b"pcspk", b"rtc", b"rtc-index")
 CLOCK_REGIONS = (*PORT_REGIONS, b"hpet")
 APIC_LOGICAL = 0xD0
@@ -48,7 +50,7 @@ class Reader:
             if QEMU_ACCESS in line:
                 seen += 1
                 self.access(line)
-            elif line.startswith(SERVICING):
+            elif SERVICING in line:
                 self.vector(line)
         if self.first is None:
             raise Unusable(f"none of its {seen} lines of memory_region_ops_* has the form of QEMU 7.2" if seen
@@ -77,7 +79,10 @@ class Reader:
         if not match:
             self.found.drop("a line of the log that is cut or mixed with another")
             return
-        seconds, micros, kind, number, address, value, size, region = match.groups()
+        seconds, micros, date, part, kind, number, address, value, size, region = match.groups()
+        if date:
+            moment = datetime.fromisoformat(date.decode()).replace(tzinfo=timezone.utc)
+            seconds, micros = str(int(moment.timestamp())).encode(), part
         if seconds is None:
             raise Unusable("its lines have no times: give QEMU the words -msg timestamp=on")
         time = int(seconds) * 1_000_000 + int(micros)
@@ -87,6 +92,7 @@ class Reader:
         self.now = max(self.now, (time - self.first) * NS_PER_MICROSECOND)
         within = self.now - self.before.get(cpu, 0) + LATE_NS
         self.before[cpu] = self.now
+        self.found.answers.next_line(cpu, self.now)
         if cpu >= self.interrupts.processors:
             self.interrupts.processors = cpu + 1
         self.of_region(region, Access(cpu, self.now, int(address, 16), int(size), int(value, 16), kind == b"write",

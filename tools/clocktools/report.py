@@ -4,9 +4,9 @@
 from pathlib import Path
 from typing import Any
 
-from .comparing import KNOWN, NEAR, SAME, UNEXPLAINED, Kind, Outcome, Tally
 from .documents import definitions, differences
 from .judging import Part
+from .outcome import KNOWN, NEAR, SAME, UNEXPLAINED, Kind, Outcome, Tally
 from .peer import Peer
 from .trace import Head
 
@@ -41,18 +41,19 @@ def rises_of(line: int, risen: int, taken: int) -> dict[str, Any]:
     return {"line": line, "rises": risen, "vectors": taken, "known": row_told(row)}
 
 
-def report(trace: Path, status: int, tally: Tally, peer: Peer, head: Head, refused: str | None) -> dict[str, Any]:
+def report(trace: Path, status: int, tally: Tally, peer: Peer | None, head: Head, refused: str | None) -> dict[str, Any]:
     """All that was found, as one object. Unexplained differences come first, then those of which there are more."""
     kinds = sorted(tally.kinds.items(), key=lambda item: (item[0].row is not None, -item[1].count, item[0].register))
     return {
         "trace": str(trace),
+        "peer": "the trace's own comments" if peer is None else str(peer.path),
         "status": status,
         "refused": refused,
         "policies": list(head.policies),
         "registers": {name: {verdict: counts[verdict] for verdict in VERDICTS}
                       for name, counts in sorted(tally.registers.items())},
         "differences": [difference(part, kind) for part, kind in kinds],
-        "rises": [rises_of(line, tally.risen[line], count) for line, count in sorted(peer.rises.items())],
+        "rises": [rises_of(line, tally.risen[line], count) for line, count in (sorted(peer.rises.items()) if peer else ())],
     }
 
 
@@ -71,7 +72,8 @@ def difference_lines(found: dict[str, Any]) -> list[str]:
 
 
 def printed_text(found: dict[str, Any]) -> str:
-    lines = [line for one in found["differences"] for line in difference_lines(one)]
+    lines = [f"compared with {found['peer']}"]
+    lines += [line for one in found["differences"] for line in difference_lines(one)]
     registers = found["registers"]
     width = max((len(name) for name in registers), default=8) + 2
     lines.append(f"{'register':{width}}" + "".join(f"{verdict:>13}" for verdict in VERDICTS))
