@@ -53,7 +53,7 @@ use Rattle.board_core.specs.Pages.{processors_after}
 use Rattle.board_core.specs.Wall.{wall_number_after, wall_version_after, wall_words}
 use Rattle.board_core.specs.Hv.{hv_after}
 use Rattle.board_core.specs.Apics.{apics_in, with_apics, apics_acted, after_look}
-use Rattle.board_core.specs.Nanosecond.{ran_for}
+use Rattle.board_core.specs.Nanosecond.{ran_for, passed_times}
 use Rattle.board_core.specs.Next.{next_of}
 use Rattle.board_core.specs.Rises.{rises_after, count_at}
 
@@ -90,6 +90,11 @@ bursts_to b h = bursts_of (now_of b) (time_of_access b h - now_of b) b.hpet
 -- the board at that time, with the access still to come
 unfoldable pub after_run : BoardParts → ℕ → BoardParts
 after_run b h = record (ran_for (time_of_access b h - now_of b) b) { host = max b.host h }
+
+-- the same board, one nanosecond of the whole board after the other
+abbrev pub after_nanoseconds : BoardParts → ℕ → BoardParts
+after_nanoseconds b h =
+    record (passed_times (now_of b) (time_of_access b h - now_of b) b) { host = max b.host h }
 
 -- the counts of a source's tick line, among the lines of the devices and those of local APICs
 abbrev pub counts_of : List TickParts → List TickParts → TickSource → TickCounts

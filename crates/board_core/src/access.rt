@@ -22,7 +22,7 @@ ghost use Rattle.irq_edges.specs.Lines.{IsOfLine};
 ghost use Rattle.board_types.specs.Legal.{is_legal};
 ghost use Rattle.board_core.specs.Apics.{after_look};
 ghost use Rattle.board_core.specs.Time.{now_of};
-ghost use Rattle.board_core.specs.Access.{ran_to, reply_of, after_access};
+ghost use Rattle.board_core.specs.Access.{ran_to, after_nanoseconds, after_act, reply_of, after_access};
 ghost use Rattle.board_core.specs.Refusals.{refusal_of};
 ghost use Rattle.board_core.specs.Outcome.{IsAsked, IsOutcome, HasTaken, IsRefused};
 ghost use Rattle.board_core.specs.private.Calls.{CanRun, HasRun};
@@ -36,6 +36,7 @@ use irq_edges::{BurstList, EdgeList};
 impl BoardState {
     /// One access by processor `cpu` at count `h` of the host's counter: the devices run to the greater of the
     /// board's time and of that at `h`, and then it acts once. A board that refuses stays as it is.
+    #[tactic(auto, using(crate::proofs::Nanoseconds::after_access_nanoseconds))]
     pub fn access(&mut self, cpu: u8, h: u64, a: Access) -> Result<Reply, Refusal>
         requires cpu { cpu < self.old.cpus }
         requires legal { IsTrue (is_legal self.old.cpus self.old.format a) }
@@ -44,6 +45,8 @@ impl BoardState {
         ensures taken { OnOk result (refusal_of self.old cpu h a ≡ None) }
         ensures reply { IfOk result (λ r. r ≡ reply_of self.old cpu h a) }
         ensures state { OnOk result (self.new ≡ after_access self.old cpu h a) }
+        // However many nanoseconds the body passes at once, the board is that of single ones.
+        ensures stepped { OnOk result (self.new ≡ after_act (after_nanoseconds self.old h) cpu h a) }
         ensures of_lines { IfOk result (λ r. All IsOfLine r.edges) }
         // Running to its time brings at most six edges, and the access itself twelve.
         ensures few_run { OnOk result (length (ran_to self.old h).edges ≤ 6) }

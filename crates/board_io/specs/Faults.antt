@@ -1,10 +1,10 @@
 -- Counts of faults, and the bytes that a source has given.
-use Rattle.std.specs.Prelude.{◌≡◌, ℕ, ◌+◌, ◌<◌, ◌≤◌, ◌==◌, ◌⊎◌, Bool, true, Result, Ok, Err}
+use Rattle.std.specs.Prelude.{◌≡◌, ℕ, ◌+◌, ◌<◌, ◌==◌, Bool, true, Result, Ok, Err, if◌then◌else◌}
 use Rattle.std.specs.Prelude.{MatchResult}
 
--- a count of faults rose in a call, or it is its type's greatest value
+-- a count of faults rose in a call
 abbrev pub Rose : ℕ → ℕ → Type 0
-Rose old new = (old < new) ⊎ (18446744073709551615 ≤ new)
+Rose old new = old < new
 
 -- the most bytes that a source gives, 2^62
 abbrev pub most_given : ℕ
@@ -18,3 +18,7 @@ AddsGiven old new r = MatchResult r (λ n. new ≡ old + n) (λ _. new ≡ old)
 abbrev pub gave_nothing : {E : Type 0} → Result ℕ E → Bool
 gave_nothing (Ok n) = n == 0
 gave_nothing (Err e) = true
+
+-- a call that gave no byte and didn't fail was at the end of the input, and counts
+abbrev pub CountsEnds : {E : Type 0} → ℕ → ℕ → Result ℕ E → Type 0
+CountsEnds old new r = MatchResult r (λ n. new ≡ (if n == 0 then old + 1 else old)) (λ _. new ≡ old)

@@ -1,47 +1,35 @@
 -- Sources and sinks in memory.
 use Rattle.std.specs.Prelude.{ℕ, ◌+◌, ◌-◌, min, Bool, ◌||◌, ◌==◌, List, length, Some}
 use Rattle.std.specs.List.{list_any}
+use Rattle.byte_log.specs.Calls.{Call, bytes_in}
 use Rattle.board_io.specs.Faults.{most_given}
-use Rattle.board_io.specs.Ends.{Input, Output}
+use Rattle.board_io.specs.Ends.{Input, Output, input_of, output_of}
 
--- what a source in memory holds: the bytes left, how many it gave, and had given at the last call,
--- whether a call gave nothing, and whether one came after it; faults, calls, which fail, the largest piece
+-- what a source in memory holds: the bytes left, the log of its calls, their number, which of them fail,
+-- and the largest piece
 pub record Supply : Type 0 where
   pub left : List ℕ
-  pub given : ℕ
-  pub before : ℕ
-  pub done : Bool
-  pub late : Bool
-  pub faults : ℕ
+  pub log : List Call
   pub calls : ℕ
   pub failing : List ℕ
   pub largest : ℕ
 
 -- as a source
 abbrev pub input_in : Supply → Input
-input_in s = record {
-  remaining = Some s.left;
-  given = s.given;
-  before = s.before;
-  done = s.done;
-  late = s.late;
-  faults = s.faults;
-}
+input_in s = input_of (Some s.left) s.log
 
--- what a sink in memory holds: the bytes, whether a call failed, and whether one came after it;
--- faults, calls, which fail, the largest piece
+-- what a sink in memory holds: the bytes, the log of its calls, their number, which of them fail, and the
+-- largest piece
 pub record Store : Type 0 where
   pub held : List ℕ
-  pub done : Bool
-  pub late : Bool
-  pub faults : ℕ
+  pub log : List Call
   pub calls : ℕ
   pub failing : List ℕ
   pub largest : ℕ
 
 -- as a sink
 abbrev pub output_in : Store → Output
-output_in s = record { contents = Some s.held; done = s.done; late = s.late; faults = s.faults }
+output_in s = output_of (Some s.held) s.log
 
 -- the number of the next call, which stays at its type's greatest value
 abbrev pub next_call : ℕ → ℕ
@@ -53,8 +41,8 @@ is_to_fail failing calls = list_any (λ call. call == next_call calls) failing
 
 -- whether the next call of a source fails: it is to, or the source has given the most
 abbrev pub supply_fails : Supply → Bool
-supply_fails s = is_to_fail s.failing s.calls || s.given == most_given
+supply_fails s = is_to_fail s.failing s.calls || length (bytes_in s.log) == most_given
 
 -- how many bytes a source gives into so many places
 abbrev pub piece_of : Supply → ℕ → ℕ
-piece_of s places = min (min places s.largest) (min (length s.left) (most_given - s.given))
+piece_of s places = min (min places s.largest) (min (length s.left) (most_given - length (bytes_in s.log)))

@@ -1,118 +1,85 @@
-ghost use Rattle.std.specs.Prelude.{◌≡◌, ◌≤◌};
+ghost use Rattle.std.specs.Prelude.{◌≡◌, ◌≤◌, [], length};
+ghost use Rattle.byte_log.specs.Calls.{bytes_in};
 ghost use Rattle.board_io.specs.Ends.{input_of, output_of};
 ghost use Rattle.board_io.specs.Faults.{most_given};
 
 use crate::sink::Sink;
 use crate::source::{Failed, MOST_GIVEN, Source};
+use byte_log::ByteLog;
 use std::io::{Read, Write};
 
-/// A source over a reader of std's. Its bytes are known where the reader's are.
+/// A source over a reader of std's. What it has given is known for each reader, and what is left where the reader's
+/// bytes are known.
 #[derive(Drop)]
 pub struct ReadSource<T: Read + Drop> {
     reader: T,
+    log: ByteLog,
     given: usize,
-    before: usize,
-    done: bool,
-    late: bool,
-    faults: u64,
     ghost few: { given ≤ most_given },
+    ghost count: { given ≡ length (bytes_in log.calls) },
 }
 
 impl<T: Read + Drop> ReadSource<T> {
     /// A source of the bytes that the reader gives.
     pub fn new(reader: T) -> ReadSource<T>
-        ensures { ⟦<ReadSource<T> as Source>⟧.input result ≡ input_of (T.remaining reader) }
+        ensures { ⟦<ReadSource<T> as Source>⟧.input result ≡ input_of (T.remaining reader) [] }
     {
         ReadSource {
             reader,
+            log: ByteLog::new(),
             given: 0,
-            before: 0,
-            done: false,
-            late: false,
-            faults: 0,
         }
-    }
-
-    /// How many of its calls have failed; the count stays at its type's greatest value.
-    pub fn faults(&self) -> u64
-        ensures { result ≡ (⟦<ReadSource<T> as Source>⟧.input self.now).faults }
-    {
-        self.faults
     }
 }
 
 impl<T: Read + Drop> Source for ReadSource<T> {
-    ghost input = { λ s. record {
-      remaining = T.remaining s.reader;
-      given = s.given;
-      before = s.before;
-      done = s.done;
-      late = s.late;
-      faults = s.faults;
-    } };
+    ghost input = { λ s. input_of (T.remaining s.reader) s.log.calls };
 
     fn take(&mut self, into: &mut [u8]) -> Result<usize, Failed> {
-        self.before = self.given;
-        self.late = self.late || self.done;
         if self.given < MOST_GIVEN {
             let room = into.len().min(MOST_GIVEN - self.given);
             if let Ok(n) = self.reader.read(&mut into[..room]) {
+                self.log.add(into, n);
                 self.given += n;
-                self.done = self.done || n == 0;
                 return Ok(n);
             }
         }
-        self.done = true;
-        self.faults = self.faults.saturating_add(1);
+        self.log.fail();
         Err(Failed)
     }
 }
 
-/// A sink over a writer of std's. Its bytes are known where the writer's are.
+/// A sink over a writer of std's. What it has accepted is known for each writer, and all that it holds where the
+/// writer's bytes are known.
 #[derive(Drop)]
 pub struct WriteSink<T: Write + Drop> {
     writer: T,
-    done: bool,
-    late: bool,
-    faults: u64,
+    log: ByteLog,
 }
 
 impl<T: Write + Drop> WriteSink<T> {
     /// A sink whose bytes go to the writer.
     pub fn new(writer: T) -> WriteSink<T>
-        ensures { ⟦<WriteSink<T> as Sink>⟧.output result ≡ output_of (T.contents writer) }
+        ensures { ⟦<WriteSink<T> as Sink>⟧.output result ≡ output_of (T.contents writer) [] }
     {
         WriteSink {
             writer,
-            done: false,
-            late: false,
-            faults: 0,
+            log: ByteLog::new(),
         }
-    }
-
-    /// How many of its calls have failed; the count stays at its type's greatest value.
-    pub fn faults(&self) -> u64
-        ensures { result ≡ (⟦<WriteSink<T> as Sink>⟧.output self.now).faults }
-    {
-        self.faults
     }
 }
 
 impl<T: Write + Drop> Sink for WriteSink<T> {
-    ghost output = { λ s. record {
-      contents = T.contents s.writer;
-      done = s.done;
-      late = s.late;
-      faults = s.faults;
-    } };
+    ghost output = { λ s. output_of (T.contents s.writer) s.log.calls };
 
     fn put(&mut self, piece: &[u8]) -> Result<usize, Failed> {
-        self.late = self.late || self.done;
         match self.writer.write(piece) {
-            Ok(n) if n > 0 => Ok(n),
+            Ok(n) if n > 0 => {
+                self.log.add(piece, n);
+                Ok(n)
+            }
             _ => {
-                self.done = true;
-                self.faults = self.faults.saturating_add(1);
+                self.log.fail();
                 Err(Failed)
             }
         }

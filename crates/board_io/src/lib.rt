@@ -1,13 +1,11 @@
 //! The outside of the board: where the bytes of a trace come from, where the printed text goes, and
 //! a gate that a test can hold the workers of `race` at.
 //!
-//! Contracts can name the bytes that a [`Source`] has left and a [`Sink`] holds. Both count their
-//! faults: `Failed` comes only where that count rose, and a call that is well leaves the count, so a
-//! caller's contract can name the cause. A source also counts the bytes that it had given at its
-//! last call, and knows whether it was called after a call that gave nothing; a sink knows whether
-//! it was called after a call that failed. [`MemSource`] and
-//! [`MemSink`] are in memory and fail on demand; [`ReadSource`] and [`WriteSink`] adapt std's
-//! readers and writers, and are the trusted edge.
+//! Contracts read the log of an end's calls: all bytes that a [`Source`] has given, how often it was at the end of its
+//! input, and all bytes that a [`Sink`] has accepted. They also know which bytes a source has left, and what a sink
+//! holds, where those are known. `Failed` comes only where a count of faults rose, and a call that is well leaves the
+//! count, so a caller's contract can name the cause. [`MemSource`] and [`MemSink`] are in memory and fail on demand;
+//! [`ReadSource`] and [`WriteSink`] adapt std's readers and writers.
 //!
 //! ```text
 //! let mut source = MemSource::new(bytes, failing, 4096);

@@ -1,5 +1,6 @@
-ghost use Rattle.std.specs.Prelude.{◌≡◌, ◌<◌, ◌≤◌, not, true, false, [], length, min, drop, IfOk, IsErr, is_ok};
+ghost use Rattle.std.specs.Prelude.{◌≡◌, ◌<◌, ◌≤◌, not, true, [], length, min, drop, IfOk, IsErr, is_ok};
 ghost use Rattle.std.specs.Prelude.{vec_len};
+ghost use Rattle.byte_log.specs.Calls.{bytes_in};
 ghost use Rattle.board_io.specs.Ends.{IsTaken, IsPut};
 ghost use Rattle.board_io.specs.Faults.{most_given};
 ghost use Rattle.board_io.specs.Memory.{Supply, Store, input_in, output_in, next_call, is_to_fail};
@@ -7,6 +8,7 @@ ghost use Rattle.board_io.specs.Memory.{supply_fails, piece_of};
 
 use crate::sink::Sink;
 use crate::source::{Failed, MOST_GIVEN, Source};
+use byte_log::ByteLog;
 use std::alloc::Global;
 use std::marker::Model;
 
@@ -15,13 +17,10 @@ use std::marker::Model;
 pub struct MemSource {
     bytes: Vec<u8>,
     taken: usize,
-    before: usize,
-    done: bool,
-    late: bool,
+    log: ByteLog,
     failing: Vec<u64>,
     largest: usize,
     calls: u64,
-    faults: u64,
 }
 
 impl Model for MemSource {
@@ -29,18 +28,15 @@ impl Model for MemSource {
 
     ghost view = { λ s. record {
       left = drop s.taken s.bytes.items;
-      given = s.taken;
-      before = s.before;
-      done = s.done;
-      late = s.late;
-      faults = s.faults;
+      log = s.log.calls;
       calls = s.calls;
       failing = s.failing.items;
       largest = s.largest;
     } };
 
     ghost invariant = { λ s.
-        (s.taken ≤ vec_len s.bytes) × (s.taken ≤ most_given) × (0 < s.largest) };
+        (s.taken ≤ vec_len s.bytes) × (s.taken ≤ most_given) × (0 < s.largest)
+        × (s.taken ≡ length (bytes_in s.log.calls)) };
 }
 
 impl MemSource {
@@ -50,11 +46,7 @@ impl MemSource {
         requires { 0 < largest }
         ensures { result ≡ record {
           left = bytes.items;
-          given = 0;
-          before = 0;
-          done = false;
-          late = false;
-          faults = 0;
+          log = [];
           calls = 0;
           failing = failing.items;
           largest = largest;
@@ -63,13 +55,10 @@ impl MemSource {
         MemSource {
             bytes,
             taken: 0,
-            before: 0,
-            done: false,
-            late: false,
+            log: ByteLog::new(),
             failing,
             largest,
             calls: 0,
-            faults: 0,
         }
     }
 }
@@ -87,19 +76,16 @@ impl Source for MemSource {
         ensures same { (self.new.failing ≡ self.old.failing)
             × (self.new.largest ≡ self.old.largest) }
     {
-        self.before = self.taken;
-        self.late = self.late || self.done;
         self.calls = self.calls.saturating_add(1);
         if self.failing.contains(&self.calls) || self.taken == MOST_GIVEN {
-            self.faults = self.faults.saturating_add(1);
-            self.done = true;
+            self.log.fail();
             return Err(Failed);
         }
         let left = (self.bytes.len() - self.taken).min(MOST_GIVEN - self.taken);
         let n = into.len().min(self.largest).min(left);
         into[..n].copy_from_slice(&self.bytes[self.taken..self.taken + n]);
+        self.log.add(into, n);
         self.taken += n;
-        self.done = self.done || n == 0;
         Ok(n)
     }
 }
@@ -108,12 +94,10 @@ impl Source for MemSource {
 #[derive(Drop)]
 pub struct MemSink {
     bytes: Vec<u8>,
-    done: bool,
-    late: bool,
+    log: ByteLog,
     failing: Vec<u64>,
     largest: usize,
     calls: u64,
-    faults: u64,
 }
 
 impl Model for MemSink {
@@ -121,9 +105,7 @@ impl Model for MemSink {
 
     ghost view = { λ s. record {
       held = s.bytes.items;
-      done = s.done;
-      late = s.late;
-      faults = s.faults;
+      log = s.log.calls;
       calls = s.calls;
       failing = s.failing.items;
       largest = s.largest;
@@ -139,9 +121,7 @@ impl MemSink {
         requires { 0 < largest }
         ensures { result ≡ record {
           held = [];
-          done = false;
-          late = false;
-          faults = 0;
+          log = [];
           calls = 0;
           failing = failing.items;
           largest = largest;
@@ -149,12 +129,10 @@ impl MemSink {
     {
         MemSink {
             bytes: Vec::new(alloc),
-            done: false,
-            late: false,
+            log: ByteLog::new(),
             failing,
             largest,
             calls: 0,
-            faults: 0,
         }
     }
 
@@ -179,16 +157,15 @@ impl Sink for MemSink {
         ensures same { (self.new.failing ≡ self.old.failing)
             × (self.new.largest ≡ self.old.largest) }
     {
-        self.late = self.late || self.done;
         self.calls = self.calls.saturating_add(1);
         let n = piece.len().min(self.largest);
         if !self.failing.contains(&self.calls)
             && self.bytes.extend_from_slice(&piece[..n]).is_ok()
         {
+            self.log.add(piece, n);
             return Ok(n);
         }
-        self.done = true;
-        self.faults = self.faults.saturating_add(1);
+        self.log.fail();
         Err(Failed)
     }
 }

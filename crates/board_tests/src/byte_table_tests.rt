@@ -1,8 +1,8 @@
 //! Numbers are read and appended with their lowest byte first.
 use crate::checks::{holds, same};
 use byte_table::{
-    byte_at, eight_at, flag_at, flag_byte, flag_valid, flags_byte, four_at, put, put_2, put_4,
-    put_8, two_at,
+    Fields, byte_at, eight_at, flag_at, flag_byte, flag_valid, flags_byte, four_at, put, put_2,
+    put_4, put_8, two_at,
 };
 use clk_units::NoMemory;
 
@@ -20,6 +20,18 @@ fn bytes_after_the_end_count_as_0(rt: HostRuntime) {
     same(&rt, 1, byte_at(&bytes, 1), 0);
     same(&rt, 2, two_at(&bytes, 0), 0xaa);
     same(&rt, 8, eight_at(&bytes, 1), 0);
+}
+
+#[test]
+fn fields_are_read_one_after_another(rt: HostRuntime) {
+    let bytes = [9, 1, 1, 2, 1, 2, 3, 4, 1, 2, 3];
+    let mut fields = Fields::new(&bytes);
+    same(&rt, "byte", fields.byte(), 9);
+    holds(&rt, "flag", fields.flag());
+    same(&rt, "two", fields.two(), 0x0201);
+    same(&rt, "four", fields.four(), 0x0403_0201);
+    same(&rt, "eight", fields.eight(), 0x03_0201);
+    same(&rt, "place", fields.place, 16);
 }
 
 #[test]

@@ -134,6 +134,15 @@ fault_in-append {F = F} (f ∷ fs) gs b p place bytes =
     ∙ sym (option_or-assoc (f.fault b p place bytes) (fault_in fs b p (place + f.size) bytes) (fault_in gs b p (place + f.size + size_of fs) bytes))
     ∙ ap (λ (k : ℕ). option_or (option_or (f.fault b p place bytes) (fault_in fs b p (place + f.size) bytes)) (fault_in gs b p k bytes)) at
 
+pub size_of-append : {F B P : Type 0} (fs gs : List (Field F B P)) → size_of (fs ++ gs) ≡ size_of fs + size_of gs
+size_of-append [] gs = omega arith
+size_of-append (f ∷ fs) gs = omega (arith, size_of-append fs gs)
+
+-- two lists have no fault
+pub fault-parts : {F B P : Type 0} (fs gs : List (Field F B P)) (b : B) (p : P) (place : ℕ) (bytes : List ℕ) → fault_in (fs ++ gs) b p place bytes ≡ None
+    → (fault_in fs b p place bytes ≡ None) × (fault_in gs b p (place + size_of fs) bytes ≡ None)
+fault-parts fs gs b p place bytes none = option_or-both _ _ (sym (fault_in-append fs gs b p place bytes) ∙ none)
+
 pub all_here-append : {F B P : Type 0} (fs gs : List (Field F B P)) (b : B) (p : P) (bytes : List ℕ) → AllHere fs b p bytes → AllHere gs b p bytes
     → AllHere (fs ++ gs) b p bytes
 all_here-append [] gs b p bytes here there = there
@@ -157,13 +166,6 @@ pub option_or-end : {F : Type 0} (o : Option F) → option_or o None ≡ o
 option_or-end None = refl
 option_or-end (Some fault) = refl
 
-pub fault-next : {F B P : Type 0} (fs gs : List (Field F B P)) (b : B) (p : P) (place at : ℕ) (bytes : List ℕ) (later : Option F) → place + size_of fs ≡ at
-    → option_or (fault_in (fs ++ gs) b p place bytes) later ≡ option_or (fault_in fs b p place bytes) (option_or (fault_in gs b p at bytes) later)
-fault-next {F = F} fs gs b p place at bytes later there =
-    ap (λ (o : Option F). option_or o later) (fault_in-append fs gs b p place bytes)
-    ∙ option_or-assoc (fault_in fs b p place bytes) (fault_in gs b p (place + size_of fs) bytes) later
-    ∙ ap (λ (n : ℕ). option_or (fault_in fs b p place bytes) (option_or (fault_in gs b p n bytes) later)) there
-
 -- lists one after the other: what holds of each holds of all
 abbrev pub joined : {A : Type 0} → List (List A) → List A
 joined [] = []
@@ -176,15 +178,3 @@ EachHere (fs ∷ fss) b p bytes = AllHere fs b p bytes × EachHere fss b p bytes
 pub here-joined : {F B P : Type 0} (fss : List (List (Field F B P))) (b : B) (p : P) (bytes : List ℕ) → EachHere fss b p bytes → AllHere (joined fss) b p bytes
 here-joined [] b p bytes each = tt
 here-joined (fs ∷ fss) b p bytes each = all_here-append fs (joined fss) b p bytes each.0 (here-joined fss b p bytes each.1)
-
--- their first fault, list by list, or else a later one
-abbrev pub fault_along : {F B P : Type 0} → List (List (Field F B P)) → B → P → ℕ → List ℕ → Option F → Option F
-fault_along [] b p place bytes later = later
-fault_along (fs ∷ fss) b p place bytes later = option_or (fault_in fs b p place bytes) (fault_along fss b p (place + size_of fs) bytes later)
-
-pub fault-joined : {F B P : Type 0} (fss : List (List (Field F B P))) (b : B) (p : P) (place : ℕ) (bytes : List ℕ) (later : Option F)
-    → option_or (fault_in (joined fss) b p place bytes) later ≡ fault_along fss b p place bytes later
-fault-joined [] b p place bytes later = refl
-fault-joined {F = F} (fs ∷ fss) b p place bytes later =
-    fault-next fs (joined fss) b p place (place + size_of fs) bytes later refl
-    ∙ ap (λ (o : Option F). option_or (fault_in fs b p place bytes) o) (fault-joined fss b p (place + size_of fs) bytes later)

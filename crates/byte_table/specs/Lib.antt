@@ -1,3 +1,4 @@
 pub mod Fold
 pub mod Codes
 pub mod Kinds
+pub mod Reading

@@ -3,6 +3,7 @@ ghost use Rattle.std.specs.Prelude.{◌≡◌, ◌≤◌, ◌∷◌, [], ◌++�
 ghost use Rattle.byte_table.specs.Codes.{number_bytes, flags_byte};
 ghost use Rattle.clk_units.specs.Bits.{bit_value};
 
+use byteorder::{LittleEndian, WriteBytesExt};
 use clk_units::NoMemory;
 
 /// Appends bytes.
@@ -17,7 +18,7 @@ pub fn put(out: &mut Vec<u8>, bytes: &[u8]) -> Result<(), NoMemory>
 pub fn put_2(out: &mut Vec<u8>, x: u16) -> Result<(), NoMemory>
     ensures { OnOk result (out.new.items ≡ out.old.items ++ number_bytes 2 x) }
 {
-    put(out, &x.to_le_bytes())
+    out.write_u16::<LittleEndian>(x).map_err(|_| NoMemory)
 }
 
 /// Appends a number of 4 bytes.
@@ -25,7 +26,7 @@ pub fn put_2(out: &mut Vec<u8>, x: u16) -> Result<(), NoMemory>
 pub fn put_4(out: &mut Vec<u8>, x: u32) -> Result<(), NoMemory>
     ensures { OnOk result (out.new.items ≡ out.old.items ++ number_bytes 4 x) }
 {
-    put(out, &x.to_le_bytes())
+    out.write_u32::<LittleEndian>(x).map_err(|_| NoMemory)
 }
 
 /// Appends a number of 8 bytes.
@@ -33,7 +34,7 @@ pub fn put_4(out: &mut Vec<u8>, x: u32) -> Result<(), NoMemory>
 pub fn put_8(out: &mut Vec<u8>, x: u64) -> Result<(), NoMemory>
     ensures { OnOk result (out.new.items ≡ out.old.items ++ number_bytes 8 x) }
 {
-    put(out, &x.to_le_bytes())
+    out.write_u64::<LittleEndian>(x).map_err(|_| NoMemory)
 }
 
 /// The byte of a flag.

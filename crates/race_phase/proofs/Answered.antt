@@ -1,5 +1,5 @@
 -- What a record was answered, by what its call on the board answered.
-use Rattle.std.proofs.Common.{◌≡◌, ◌∙◌, ℕ, List, [], ◌∷◌, ◌++◌, refl, sym, subst, append-nil, Bool, true, false, All, ap}
+use Rattle.std.proofs.Common.{◌≡◌, ◌∙◌, ℕ, List, [], ◌∷◌, ◌++◌, refl, sym, subst, append-nil, Bool, true, false}
 use Rattle.board_types.specs.declared.access.Access.{Access}
 use Rattle.board_types.specs.declared.parts.BoardParts.{BoardParts}
 use Rattle.board_types.specs.declared.reply.Reply.{Reply}
@@ -13,7 +13,7 @@ use Rattle.pvclock_page.specs.declared.page.PageReply.{PageReply}
 use Rattle.pvclock_page.specs.declared.page.ClockReply.{ClockReply}
 use Rattle.pvclock_page.specs.declared.page.ClockReply.TheVariants.{Off, On}
 use Rattle.shared_board.specs.declared.known.PassKnown.{PassKnown}
-use Rattle.shared_board.specs.Passes.{miss, IsUpdate, Answered, Tried}
+use Rattle.shared_board.specs.Passes.{miss, mine, Answered, Tried}
 use Rattle.shared_board.specs.Hv.{HasReadHv}
 use Rattle.shared_board.specs.Pages.{clock_entries, IsClockOf, HasReadPage, HasReadClock}
 use Rattle.shared_board.proofs.Made.{made_of}
@@ -21,35 +21,38 @@ use Rattle.trace_blocks.specs.declared.records.Answer.TheVariants.{Acted, PageIs
 use Rattle.trace_records.specs.declared.Call.{Call}
 use Rattle.trace_records.specs.declared.Call.TheVariants.{Act, ReadPage, ReadClock, ReadHv}
 use Rattle.trace_blocks.specs.declared.records.Record.{Record}
-use Rattle.race_phase.specs.Calls.{CallMade}
-use Rattle.race_phase.specs.private.Workers.{AllTried, IsMade}
-use Rattle.std.proofs.lemmas.List.Elements.{All-nil, All-cons}
+use Rattle.race_phase.specs.Calls.{CallMade, IsTryOf, AllTried}
+use Rattle.race_phase.specs.private.Workers.{IsMade}
 
 -- a read that was tried once has one miss, and is under the lock, or none
 abbrev HasMisses : ℕ → List Entry → PassKnown → PassKnown → Type 0
-HasMisses c es p q = (ms : List Miss) × AllTried c es ms × (q.misses ≡ p.misses ++ ms)
+HasMisses c es p q = (ms : List Miss) × AllTried c p.number p.seen (mine p) es ms × (q.misses ≡ p.misses ++ ms)
 
-none_tried : (c : ℕ) → AllTried c [] []
-none_tried c = (refl, All-nil (λ (m : Miss). IsUpdate m.first m.second))
+the_miss : (k : ℕ) (p q : PassKnown) (t : Tried k true p q) → IsTryOf p.number p.seen (mine p) k (miss k t.0 t.1)
+the_miss k p q t = record {
+  page = refl;
+  update = t.4;
+  seen = p.seen;
+  begins = ([], append-nil p.seen);
+  mine = refl;
+  least = t.3;
+}
 
-one_update : (k first second : ℕ) → IsUpdate first second → All (λ (m : Miss). IsUpdate m.first m.second) (miss k first second ∷ [])
-one_update k first second is =
-    All-cons (λ (m : Miss). IsUpdate m.first m.second) (miss k first second) [] is (All-nil (λ (m : Miss). IsUpdate m.first m.second))
-
-read_tried : (c n k h : ℕ) (page : Page) (locked : Bool) (es : List Entry) (p q : PassKnown) → Tried k locked p q → AllTried c es []
+read_tried : (c n k h : ℕ) (page : Page) (locked : Bool) (es : List Entry) (p q : PassKnown) → Tried k locked p q
+    → AllTried c p.number p.seen (mine p ++ PageRead n k h page locked ∷ []) es []
     → HasMisses c (PageRead n k h page locked ∷ es) p q
-read_tried c n k h page true es p q t none = (miss k t.0 t.1 ∷ [], (ap (λ (l : List ℕ). k ∷ l) none.0, one_update k t.0 t.1 t.4), t.2)
-read_tried c n k h page false es p q t none = ([], none, t ∙ sym (append-nil p.misses))
+read_tried c n k h page true es p q t none =
+    let m : Miss = miss k t.0 t.1 in (m ∷ [], (m ∷ [], [], refl, (m, refl, the_miss k p q t), none), t.2)
+read_tried c n k h page false es p q t none = ([], ([], [], refl, refl, none), t ∙ sym (append-nil p.misses))
 
 hv_tried : (c n h : ℕ) (page : HvPage) (locked : Bool) (p q : PassKnown) → Tried c locked p q → HasMisses c (HvRead n h page locked ∷ []) p q
-hv_tried c n h page true p q t = (miss c t.0 t.1 ∷ [], (refl, one_update c t.0 t.1 t.4), t.2)
-hv_tried c n h page false p q t = ([], none_tried c, t ∙ sym (append-nil p.misses))
+hv_tried c n h page true p q t = let m : Miss = miss c t.0 t.1 in (m ∷ [], (m ∷ [], [], refl, (m, refl, the_miss c p q t), refl), t.2)
+hv_tried c n h page false p q t = ([], ([], [], refl, refl, refl), t ∙ sym (append-nil p.misses))
 
 clock_tried : (c n k h : ℕ) (page : Page) (locked : Bool) (reply : ClockReply) (p q : PassKnown) → Tried k locked p q
     → HasMisses c (clock_entries n k h page locked reply) p q
-clock_tried c n k h page locked Off p q t = read_tried c n k h page locked [] p q t (none_tried c)
-clock_tried c n k h page locked (On reading clock) p q t =
-    read_tried c n k h page locked (Clamp n k reading clock ∷ []) p q t (refl, All-nil (λ (m : Miss). IsUpdate m.first m.second))
+clock_tried c n k h page locked Off p q t = read_tried c n k h page locked [] p q t refl
+clock_tried c n k h page locked (On reading clock) p q t = read_tried c n k h page locked (Clamp n k reading clock ∷ []) p q t ([], [], refl, refl, refl)
 
 clock_call : (s : BoardParts) (n cpu h k : ℕ) (page : Page) (locked : Bool) (reply : ClockReply) (p : PassKnown) → IsClockOf s h page reply p
     → CallMade s n cpu h (ReadClock k) (ClockIs reply) (clock_entries n k h page locked reply)
@@ -64,14 +67,14 @@ module _ (s : BoardParts) (r : Record) (p q : PassKnown) where
         subst (λ (call : Call). CallMade s p.number r.cpu r.h call (Acted reply) (e ∷ [])) (sym is) refl,
         made_of p q e a,
         [],
-        none_tried s.cpus,
+        ([], [], refl, refl, refl),
         a.misses ∙ sym (append-nil p.misses),
       )
 
   pub page_made : (k : ℕ) (reply : PageReply) → r.call ≡ ReadPage k → HasReadPage s k r.h reply p q → IsMade s r (PageIs reply) p q
   page_made k reply is a =
       let es : List Entry = PageRead p.number k r.h a.read.page a.locked ∷ [] in
-      let m = read_tried s.cpus p.number k r.h a.read.page a.locked [] p q a.tried (none_tried s.cpus) in (
+      let m = read_tried s.cpus p.number k r.h a.read.page a.locked [] p q a.tried refl in (
         es,
         subst (λ (call : Call). CallMade s p.number r.cpu r.h call (PageIs reply) es) (sym is) (a.read.page, a.locked, a.read.answer, refl),
         a.read.made,

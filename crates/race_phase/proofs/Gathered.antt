@@ -1,5 +1,5 @@
 -- What the workers of a phase give, one after another.
-use Rattle.std.proofs.Common.{◌≡◌, ℕ, ◌+◌, ◌<◌, List, [], ◌∷◌, ◌++◌, length, length-append, refl, subst, arith, Result, IfOk}
+use Rattle.std.proofs.Common.{◌≡◌, ℕ, ◌+◌, ◌<◌, List, [], ◌∷◌, ◌++◌, length, length-append, refl, subst, arith, All}
 use Rattle.std.proofs.Math.ListN.{get_or-append}
 use Rattle.std.proofs.Math.Seq.{get_or-append_seam}
 use Rattle.trace_blocks.specs.declared.deliveries.Deliveries.{Deliveries}
@@ -8,25 +8,24 @@ use Rattle.shared_board.specs.declared.known.PassKnown.{PassKnown}
 use Rattle.trace_blocks.specs.declared.ends.End.{End}
 use Rattle.race_phase.specs.declared.phases.Phase.{Phase}
 use Rattle.race_phase.specs.declared.piece.Part.{Part}
-use Rattle.race_phase.specs.declared.work.Worked.{Worked}
-use Rattle.race_phase.specs.private.Feed.{AllRan, GatheredAll, HasRun}
+use Rattle.race_phase.specs.private.Feed.{GatheredAll, HasRun}
 use Rattle.race_phase.specs.private.Workers.{AllWorked, HasWorked}
 use Rattle.race_phase.proofs.Parts.{same_phase}
 use Rattle.race_phase.proofs.Workers.{worked-snoc}
 
-module _ (s : BoardParts) (ds : Deliveries) where
-  -- what is given by one worker more
-  pub ran_front : {N F E : Type 0} (xs : List (Result (Worked N F) E)) (x : Result (Worked N F) E) → AllRan (xs ++ x ∷ []) s ds → AllRan xs s ds
-  ran_front xs x all i d l =
+-- what is true of all but the last, and of the last
+module _ {A : Type 0} (P : A → Type 0) (xs : List A) (x : A) (all : All P (xs ++ x ∷ [])) where
+  pub all_front : All P xs
+  all_front i d l =
       let more : i < length (xs ++ x ∷ []) = let e = length-append xs (x ∷ []) in omega arith in
-      subst (λ r. IfOk r (λ w. HasRun s ds w.taken.items w.end i w.pass w.text.items)) (get_or-append xs (x ∷ []) d i l) (all i d more)
+      subst P (get_or-append xs (x ∷ []) d i l) (all i d more)
 
-  pub ran_last : {N F E : Type 0} (xs : List (Result (Worked N F) E)) (x : Result (Worked N F) E) → AllRan (xs ++ x ∷ []) s ds
-      → IfOk x (λ w. HasRun s ds w.taken.items w.end (length xs) w.pass w.text.items)
-  ran_last xs x all =
+  pub all_last : P x
+  all_last =
       let more : length xs < length (xs ++ x ∷ []) = let e = length-append xs (x ∷ []) in omega arith in
-      subst (λ r. IfOk r (λ w. HasRun s ds w.taken.items w.end (length xs) w.pass w.text.items)) (get_or-append_seam xs x [] x) (all (length xs) x more)
+      subst P (get_or-append_seam xs x [] x) (all (length xs) x more)
 
+module _ (s : BoardParts) (ds : Deliveries) where
   -- one pass more, which has run the same phase as those before it, if there are any
   pub gathered_more : (ps qs : List Part) (e d : End) (ns : List PassKnown) (out : List ℕ) (p : PassKnown) (zs : List ℕ) (n : ℕ)
       → (length ns ≡ 0 → out ≡ []) → (0 < length ns → ps ≡ qs) → (0 < length ns → GatheredAll s ds ps e ns out)

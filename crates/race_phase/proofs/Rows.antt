@@ -111,7 +111,7 @@ processor_0_is_first = (
     refl,
     (ClockIs (On 4 4), [], clock_read false, [], refl, refl, (page, false, refl, refl, refl), (refl, refl)),
   ),
-  ([], refl, All-nil _),
+  ([], ([], [], refl, refl, ([], [], refl, refl, ([], [], refl, refl, refl))), All-nil _),
   (
     codes "6 2\n8 3\n",
     [],
@@ -126,7 +126,7 @@ processor_0_is_first = (
       refl,
       (Acted (reply 3), [], stepped 3 3 ∷ [], [], refl, refl, refl, (refl, refl)),
     ),
-    ([], refl, All-nil _),
+    ([], ([], [], refl, refl, ([], [], refl, refl, refl)), All-nil _),
     refl,
   ),
 )
@@ -148,7 +148,7 @@ processor_1_is_first = (
     refl,
     (ClockIs (On 4 4), [], clock_read false, [], refl, refl, (page, false, refl, refl, refl), (refl, refl)),
   ),
-  ([], refl, All-nil _),
+  ([], ([], [], refl, refl, ([], [], refl, refl, ([], [], refl, refl, refl))), All-nil _),
   (
     codes "6 1\n8 3\n",
     [],
@@ -163,7 +163,7 @@ processor_1_is_first = (
       refl,
       (Acted (reply 3), [], stepped 3 3 ∷ [], [], refl, refl, refl, (refl, refl)),
     ),
-    ([], refl, All-nil _),
+    ([], ([], [], refl, refl, ([], [], refl, refl, refl)), All-nil _),
     refl,
   ),
 )

@@ -44,7 +44,7 @@ use Rattle.trace_records.specs.declared.Call.{Call}
 use Rattle.trace_records.specs.declared.Call.TheVariants.{Act, ReadPage, ReadClock, ReadHv}
 use Rattle.trace_blocks.specs.declared.records.Record.{Record}
 use Rattle.race_phase.specs.Calls.{IsFitting, records_of, CallMade, AllMade, Shown}
-use Rattle.race_phase.specs.private.Workers.{IsTrouble, HasStopped, HasWorked, AllWorked, AllTried}
+use Rattle.race_phase.specs.private.Workers.{IsTrouble, HasStopped, HasWorked, AllWorked, HasTried}
 use Rattle.race_phase.proofs.Counts.{weigh, weigh-append, of_entry, of_call, of_record, reads, part, one, one_there}
 use Rattle.race_phase.proofs.Workers.{tried_told}
 
@@ -133,7 +133,7 @@ module _ (s : BoardParts) where
     worked_below : (rs : List Record) (n : ℕ) (p : PassKnown) (zs : List ℕ) (w : Entry → ℕ) (v : Record → ℕ) → Covers w v → HasWorked s ds rs n p zs
         → weigh w (mine p) ≤ weigh v (records_of n rs)
     worked_below rs n p zs w v k x = ⊎_elim
-        (λ (all : AllMade s ds n (records_of n rs) zs (mine p) × AllTried s.cpus (mine p) p.misses). covers_all w v n (records_of n rs) zs (mine p) k all.0)
+        (λ (all : AllMade s ds n (records_of n rs) zs (mine p) × HasTried s.cpus p). covers_all w v n (records_of n rs) zs (mine p) k all.0)
         (λ (y : HasStopped s ds n (records_of n rs) p). let l = stopped_below n (records_of n rs) p y w v k in omega arith)
         x.1
 
@@ -198,16 +198,16 @@ module _ (s : BoardParts) (ds : Deliveries) (rs : List Record) (h : List Entry) 
       }
 
       by_first : Shown s ds rs h (suc n) (length ps) all.1
-          → (AllMade s ds n (records_of n rs) all.0 (mine p) × AllTried s.cpus (mine p) p.misses) ⊎ HasStopped s ds n (records_of n rs) p
+          → (AllMade s ds n (records_of n rs) all.0 (mine p) × HasTried s.cpus p) ⊎ HasStopped s ds n (records_of n rs) p
           → Shown s ds rs h n (suc (length ps)) out ⊎ Stuck s rs h n (suc (length ps))
       by_first shown x = ⊎_elim
-          (λ (made : AllMade s ds n (records_of n rs) all.0 (mine p) × AllTried s.cpus (mine p) p.misses).
+          (λ (made : AllMade s ds n (records_of n rs) all.0 (mine p) × HasTried s.cpus p).
           inl (
             all.0,
             all.1,
             all.2,
             subst (AllMade s ds n (records_of n rs) all.0) (sym mine_told) made.0,
-            tried_told s.cpus n h p.misses (subst (λ (es : List Entry). AllTried s.cpus es p.misses) (sym mine_told) made.1) told.2,
+            tried_told s.cpus n h p all.3.0 told.0 mine_told told.2 made.1,
             shown,
           ))
           (λ (y : HasStopped s ds n (records_of n rs) p). inr (here y)) x

@@ -28,7 +28,7 @@ use Rattle.shared_board.specs.Passes.{mine}
 use Rattle.trace_blocks.specs.declared.records.Record.{Record}
 use Rattle.race_phase.specs.declared.working.Working.{Working}
 use Rattle.race_phase.specs.Calls.{records_of, AllMade}
-use Rattle.race_phase.specs.private.Workers.{AllButLast, AllTried, HasHalted, HasPrinted, HasStopped, HasWorked}
+use Rattle.race_phase.specs.private.Workers.{AllButLast, HasTried, HasHalted, HasPrinted, HasStopped, HasWorked}
 use Rattle.race_phase.specs.private.Working.{IsWorking}
 use Rattle.race_phase.proofs.Workers.{records_of-append, records_skip, records_take, stopped_more, waits_printed, waits_stopped}
 
@@ -104,7 +104,7 @@ module _ (s : BoardParts) (ds : Deliveries) (n : ℕ) where
   worked_end rs w none x = (x.number, by_halted w.halted refl)
     where
       by_halted : (b : Bool) → w.halted ≡ b
-          → (AllMade s ds n (records_of n rs) w.text.items (mine w.pass) × AllTried s.cpus (mine w.pass) w.pass.misses)
+          → (AllMade s ds n (records_of n rs) w.text.items (mine w.pass) × HasTried s.cpus w.pass)
           ⊎ HasStopped s ds n (records_of n rs) w.pass
       by_halted false e =
           let all = x.going e in

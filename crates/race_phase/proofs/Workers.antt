@@ -31,6 +31,7 @@ use Rattle.std.proofs.Common.{
   append-nil,
   Option,
   Some,
+  None,
   Bool,
   if◌then◌else◌,
   eq-eqb,
@@ -39,7 +40,7 @@ use Rattle.std.proofs.Common.{
 use Rattle.std.specs.Prelude.{slice_get, IfSome}
 use Rattle.std.proofs.Math.ListN.{get_or-append}
 use Rattle.std.proofs.Math.Seq.{take-suc, drop-cons, get_or-append_seam}
-use Rattle.std.proofs.lemmas.List.{length-take-le, take-append-drop, take_more_set, map-append}
+use Rattle.std.proofs.lemmas.List.{length-take-le, take-append-drop, take_more_set}
 use Rattle.std.proofs.lemmas.Option.{slice_get-get_or, get_or_from_slice_get, slice_get_within}
 use native.Mathlib.Decide.{ℕ_discrete}
 use Rattle.trace_blocks.specs.declared.deliveries.Deliveries.{Deliveries}
@@ -48,12 +49,12 @@ use Rattle.board_history.specs.declared.entry.Entry.{Entry}
 use Rattle.board_history.specs.declared.entry.Entry.TheVariants.{Opened}
 use Rattle.clock_table.specs.declared.view.Miss.{Miss}
 use Rattle.shared_board.specs.declared.known.PassKnown.{PassKnown}
-use Rattle.shared_board.specs.Passes.{mine, Unanswered, IsUpdate}
+use Rattle.shared_board.specs.Passes.{mine, Unanswered}
 use Rattle.shared_board.specs.Stops.{newcomers}
 use Rattle.trace_blocks.specs.declared.records.Answer.{Answer}
 use Rattle.trace_blocks.specs.declared.records.Record.{Record}
 use Rattle.trace_blocks.specs.Blocks.{block_of}
-use Rattle.race_phase.specs.Calls.{IsFitting, records_of, CallMade, AllMade, locked_page, IsTried}
+use Rattle.race_phase.specs.Calls.{IsFitting, records_of, CallMade, AllMade, AllTried, HasMiss, IsTryOf, IsTried, locked_page}
 use Rattle.race_phase.specs.declared.batch.Place.{Place}
 use Rattle.race_phase.specs.private.Told.{answer_with}
 use Rattle.race_phase.specs.private.Workers.{
@@ -69,10 +70,12 @@ use Rattle.race_phase.specs.private.Workers.{
   HasPrinted,
   AllButLast,
   HasGoneOn,
-  AllTried,
+  HasTried,
 }
-use Rattle.std.proofs.lemmas.List.Elements.{filter_map-append, filter-append, All-append, All-nil, All-cons, All-head, All-tail}
+use Rattle.std.proofs.lemmas.List.Elements.{filter-append, All-nil, All-cons}
+use mathlib.Core.List.{IsPrefix}
 use Rattle.clock_table.specs.Ends.{MissesTold}
+use Rattle.clock_table.proofs.Lists.{prefix_trans}
 use Rattle.board_history.specs.History.{entries_of, version_after}
 
 -- the records of a processor in two lists, one after the other
@@ -91,32 +94,54 @@ pub take_next : (rs : List Record) (i : ℕ) (d : Record) → i < length rs → 
 take_next rs i d l = let e : i + 1 ≡ suc i = omega arith in ap (λ (k : ℕ). take k rs) e ∙ take-suc rs i d l
 
 -- the misses of calls one after another
-pub tried-++ : (c : ℕ) (es fs : List Entry) (ms ns : List Miss) → AllTried c es ms → AllTried c fs ns → AllTried c (es ++ fs) (ms ++ ns)
-tried-++ c es fs ms ns a b = (
-  map-append (λ (m : Miss). m.page) ms ns ∙ (λ i. a.0 i ++ b.0 i) ∙ sym (filter_map-append (locked_page c) es fs),
-  All-append (λ (m : Miss). IsUpdate m.first m.second) ms ns a.1 b.1,
+tried-++ : (c n : ℕ) (h made es fs : List Entry) (ms ns : List Miss) → AllTried c n h made es ms → AllTried c n h (made ++ es) fs ns
+    → AllTried c n h made (es ++ fs) (ms ++ ns)
+tried-++ c n h made [] fs ms ns a b =
+    subst (λ (z : List Entry × List Miss). AllTried c n h z.0 fs z.1) (λ i. (append-nil made i, sym (ap (λ (l : List Miss). l ++ ns) a) i)) b
+tried-++ c n h made (e ∷ es) fs ms ns a b = (
+  a.0,
+  a.1 ++ ns,
+  ap (λ (l : List Miss). l ++ ns) a.2 ∙ append_assoc a.0 a.1 ns,
+  a.3,
+  tried-++ c n h (made ++ e ∷ []) es fs a.1 ns a.4
+      (subst (λ (l : List Entry). AllTried c n h l fs ns) (sym (append_assoc made (e ∷ []) es)) b),
 )
 
+-- they are misses in a longer history, too
+miss_more : (n : ℕ) (h more made : List Entry) (o : Option ℕ) (ms : List Miss) → IsPrefix h more → HasMiss n h made o ms → HasMiss n more made o ms
+miss_more n h more made None ms longer x = x
+miss_more n h more made (Some k) ms longer x =
+    let t : IsTryOf n h made k x.0 = x.2 in
+    (x.0, x.1, record { page = t.page; update = t.update; seen = t.seen; begins = prefix_trans t.seen h more t.begins longer; mine = t.mine; least = t.least })
+
+tried_more : (c n : ℕ) (h more made es : List Entry) (ms : List Miss) → IsPrefix h more → AllTried c n h made es ms → AllTried c n more made es ms
+tried_more c n h more made [] ms longer a = a
+tried_more c n h more made (e ∷ es) ms longer a =
+    (a.0, a.1, a.2, miss_more n h more made (locked_page c e) a.0 longer a.3, tried_more c n h more (made ++ e ∷ []) es a.1 longer a.4)
+
 -- the misses of a pass, whose versions came
-abbrev HasMet : Miss → Type 0
-HasMet m = IsUpdate m.first m.second
-
 abbrev HasCome : List Entry → Miss → Type 0
-HasCome h m = HasMet m × (m.second ≤ version_after h m.page)
+HasCome h m = m.second ≤ version_after h m.page
 
-all_came : (h : List Entry) (ms : List Miss) → All HasMet ms → MissesTold h ms → All (HasCome h) ms
-all_came h [] met came = All-nil (HasCome h)
-all_came h (m ∷ ms) met came = All-cons (HasCome h) m ms (All-head HasMet m ms met, came.0) (all_came h ms (All-tail HasMet m ms met) came.1)
+all_came : (h : List Entry) (ms : List Miss) → MissesTold h ms → All (HasCome h) ms
+all_came h [] came = All-nil (HasCome h)
+all_came h (m ∷ ms) came = All-cons (HasCome h) m ms came.0 (all_came h ms came.1)
 
-pub tried_told : (c n : ℕ) (h : List Entry) (ms : List Miss) → AllTried c (entries_of n h) ms → MissesTold h ms → IsTried c h n
-tried_told c n h ms tried told = (ms, tried.0, all_came h ms tried.1 told)
+pub tried_told : (c n : ℕ) (h : List Entry) (p : PassKnown) → p.number ≡ n → IsPrefix p.seen h → entries_of n h ≡ mine p → MissesTold h p.misses
+    → HasTried c p → IsTried c h n
+tried_told c n h p is begins same told tried = (
+  p.misses,
+  subst (λ (z : ℕ × List Entry). AllTried c z.0 h [] z.1 p.misses) (λ i. (is i, sym same i)) (tried_more c p.number p.seen h [] (mine p) p.misses begins tried),
+  all_came h p.misses told,
+)
 
 -- a record that was answered
-pub tried_made : (s : BoardParts) (r : Record) (a : Answer) (p q : PassKnown) → IsMade s r a p q → AllTried s.cpus (mine p) p.misses
-    → AllTried s.cpus (mine q) q.misses
+tried_made : (s : BoardParts) (r : Record) (a : Answer) (p q : PassKnown) → IsMade s r a p q → HasTried s.cpus p → HasTried s.cpus q
 tried_made s r a p q m t =
-    subst (λ (z : List Entry × List Miss). AllTried s.cpus z.0 z.1) (λ i. (sym m.2.mine i, sym m.5 i))
-    (tried-++ s.cpus (mine p) m.0 p.misses m.3 t m.4)
+    subst (λ (z : ℕ × List Entry × List Miss). AllTried s.cpus z.0 q.seen [] z.1 z.2) (λ i. (sym m.2.number i, sym m.2.mine i, sym m.5 i))
+    (tried-++ s.cpus p.number q.seen [] (mine p) m.0 p.misses m.3
+    (tried_more s.cpus p.number p.seen q.seen [] (mine p) p.misses m.2.more t)
+    (tried_more s.cpus p.number p.seen q.seen (mine p) m.0 m.3 m.2.more m.4))
 
 -- the passes of a new board
 pub newcomers_length : (s : BoardParts) (n : ℕ) → length (newcomers s n) ≡ n

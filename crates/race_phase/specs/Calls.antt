@@ -11,7 +11,6 @@ use Rattle.std.specs.Prelude.{
   [],
   ◌∷◌,
   ◌++◌,
-  map,
   All,
   Option,
   Some,
@@ -21,7 +20,8 @@ use Rattle.std.specs.Prelude.{
   false,
   IsTrue,
 }
-use Rattle.std.specs.List.{filter, filter_map}
+use Rattle.std.specs.List.{filter}
+use mathlib.Core.List.{IsPrefix}
 use Rattle.trace_blocks.specs.declared.deliveries.Deliveries.{Deliveries}
 use Rattle.hv_page.specs.declared.page.HvPage.{HvPage}
 use Rattle.pvclock_page.specs.declared.page.Page.{Page}
@@ -85,14 +85,35 @@ locked_page cpus (PageRead n k h page true) = Some k
 locked_page cpus (HvRead n h page true) = Some cpus
 locked_page cpus e = None
 
--- the pass n has taken the lock for a read: each read under it among its entries comes after a try
--- without it that met an update of the same page. These are its misses, in order, there are no
--- others, and the version that each of them met came
+-- a try of the pass n met an update of the page k: its first version is no older than what the pass
+-- had seen of h by then, with all the entries that it had made
+pub record IsTryOf (n : ℕ) (h made : List Entry) (k : ℕ) (m : Miss) : Type 0 where
+  pub page : m.page ≡ k
+  pub update : IsUpdate m.first m.second
+  pub seen : List Entry
+  pub begins : IsPrefix seen h
+  pub mine : entries_of n seen ≡ made
+  pub least : version_after seen k ≤ m.first
+
+-- the miss of an entry that read this page under the lock; none of any other
+abbrev pub HasMiss : ℕ → List Entry → List Entry → Option ℕ → List Miss → Type 0
+HasMiss n h made None ms = ms ≡ []
+HasMiss n h made (Some k) ms = (m : Miss) × (ms ≡ m ∷ []) × IsTryOf n h made k m
+
+-- the misses of entries that the pass n made after others, in order
+abbrev pub AllTried : ℕ → ℕ → List Entry → List Entry → List Entry → List Miss → Type 0
+AllTried cpus n h made [] ms = ms ≡ []
+AllTried cpus n h made (e ∷ es) ms =
+    (first : List Miss) × (rest : List Miss) × (ms ≡ first ++ rest)
+    × HasMiss n h made (locked_page cpus e) first × AllTried cpus n h (made ++ e ∷ []) es rest
+
+-- the pass n has taken the lock for a read only after a try without it that met an update of the same
+-- page, which came after the pass's entry before: these are its misses, one for each such read, there
+-- are no others, and the version that each of them met came
 abbrev pub IsTried : ℕ → List Entry → ℕ → Type 0
 IsTried cpus h n =
-    (ms : List Miss)
-    × (map (λ (m : Miss). m.page) ms ≡ filter_map (locked_page cpus) (entries_of n h))
-    × All (λ (m : Miss). IsUpdate m.first m.second × (m.second ≤ version_after h m.page)) ms
+    (ms : List Miss) × AllTried cpus n h [] (entries_of n h) ms
+    × All (λ (m : Miss). m.second ≤ version_after h m.page) ms
 
 -- the text of k processors from n on, one after another
 abbrev pub Shown : BoardParts → Deliveries → List Record → List Entry → ℕ → ℕ → List ℕ → Type 0

@@ -6,7 +6,8 @@ use clk_units::NoMemory;
 pub enum Halt {
     /// There is no memory.
     NoMemory,
-    /// The feed was closed before the end of the trace.
+    /// The feed was closed before the end of the trace, or a line of it is refused; where neither is so, what a thread or
+    /// the lock gave back doesn't fit together.
     Closed,
 }
 

@@ -31,7 +31,9 @@
 //! ```
 #![tactic(auto)]
 
+mod allowance;
 mod batch;
+mod draws;
 mod feed;
 mod halt;
 mod means;
@@ -43,6 +45,7 @@ mod phases;
 mod piece;
 mod race;
 mod tally;
+mod team;
 mod text;
 mod texts;
 mod told;

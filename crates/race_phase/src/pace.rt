@@ -1,6 +1,7 @@
 //! How many accesses a worker makes each time that it has the lock, and when it asks for it.
 ghost use Rattle.std.specs.Prelude.{◌≡◌, ◌<◌, ◌≤◌};
 
+use crate::draws::Draws;
 use std::hint::spin_loop;
 use std::sync::Wait;
 use worker_turns::Schedule;
@@ -20,39 +21,40 @@ const TURNS: u64 = 200;
 /// How many pauses of the processor a worker makes before it answers one record: fewer than these.
 const PAUSES: u64 = 32;
 
-/// The constants of Knuth's linear generator modulo 2^64. The low bits of its numbers come round soon, so the high ones
-/// are taken.
-const FACTOR: u64 = 6_364_136_223_846_793_005;
-
-const ADDEND: u64 = 1_442_695_040_888_963_407;
-
-const HIGH: u32 = 33;
-
 /// When a worker goes on, by random numbers of its own, so that its records fall otherwise beside those of others in each run.
 #[derive(Drop)]
 pub(crate) struct Pace<'a> {
     schedule: &'a Schedule,
     worker: u64,
-    state: u64,
+    draws: Draws,
+    /// Whether the worker was at the start line.
+    has_started: bool,
 }
 
 impl<'a> Pace<'a> {
     /// The pace of a worker.
-    pub(crate) fn new(schedule: &'a Schedule, worker: u64) -> Pace<'a> {
+    pub(crate) fn new(schedule: &'a Schedule, worker: u64, seed: u64) -> Pace<'a> {
         Pace {
             schedule,
             worker,
-            state: worker,
+            draws: Draws::new(seed.wrapping_add(worker)),
+            has_started: false,
         }
     }
 
-    /// Waits at the start line, where the worker has so many records at first.
+    /// Before the records of a processor, of which there are so many at first: waits at the start line, before the first ones.
     pub(crate) fn start<R: Wait>(&mut self, rt: &R, records: u64) {
-        if records > 0 && self.takes_turns(records) {
+        if records == 0 {
+            return;
+        }
+        if self.takes_turns(records) {
             self.schedule.come(self.worker);
         }
-        self.schedule.start(rt, records < FEW);
-        self.stir();
+        if !self.has_started {
+            self.has_started = true;
+            self.schedule.start(rt, records < FEW);
+            self.stir();
+        }
     }
 
     /// Whether the worker takes turns, where so many records are left.
@@ -62,17 +64,17 @@ impl<'a> Pace<'a> {
 
     /// Makes the next numbers differ from run to run.
     fn stir(&mut self) {
-        let state = self.state.wrapping_add(self.schedule.chance());
-        self.state = state.wrapping_mul(FACTOR);
+        self.draws.stir(self.schedule.chance());
     }
 
-    /// A number below `end`.
-    fn draw(&mut self, end: u64) -> u64
-        requires { 0 < end }
-        ensures { result < end }
+    /// Which of so many processors the worker begins with.
+    pub(crate) fn first(&mut self, processors: usize) -> usize
+        ensures { result ≤ processors }
     {
-        self.state = self.state.wrapping_mul(FACTOR).wrapping_add(ADDEND);
-        (self.state >> HIGH) % end
+        match processors {
+            0 => 0,
+            _ => self.draws.below(processors as u64) as usize,
+        }
     }
 
     /// How many records are answered next, where `left` of the processor are left.
@@ -85,7 +87,7 @@ impl<'a> Pace<'a> {
             return 1;
         }
         let more = MOST_AT_ONCE - LEAST_AT_ONCE + 1;
-        LEAST_AT_ONCE + self.draw(more as u64) as usize
+        LEAST_AT_ONCE + self.draws.below(more as u64) as usize
     }
 
     /// Waits where one record is answered next: for the worker's turn, where it takes turns, and then for a random while.
@@ -96,7 +98,7 @@ impl<'a> Pace<'a> {
         if self.takes_turns(left) {
             self.take_turn(left);
         }
-        for _ in 0..self.draw(PAUSES) {
+        for _ in 0..self.draws.below(PAUSES) {
             spin_loop();
         }
     }
@@ -109,7 +111,7 @@ impl<'a> Pace<'a> {
         if left <= 1 {
             self.schedule.leave(self.worker);
         }
-        let next = self.draw(self.schedule.workers().max(1));
+        let next = self.draws.below(self.schedule.workers().max(1));
         self.schedule.begin(next);
     }
 }

@@ -1,15 +1,17 @@
 //! The records of a phase, each processor's in a thread of its own.
-ghost use Rattle.std.specs.Prelude.{◌≡◌, ◌<◌, [], IfOk, vec_len};
+ghost use Rattle.std.specs.Prelude.{◌≡◌, ◌<◌, IfOk, OnOk, length, vec_len};
 ghost use Rattle.std.specs.Bool.{OnTrue};
 ghost use Rattle.trace_blocks.specs.declared.deliveries.Deliveries.{Deliveries};
-ghost use Rattle.shared_board.specs.Passes.{mine};
-ghost use Rattle.race_phase.specs.private.Feed.{AllRan, GatheredAll, HasRun, PhaseRun};
+ghost use Rattle.race_phase.specs.private.Feed.{AllRan, AreFresh, GatheredAll, Gathers, HasRunOwn, HaveRun, PhaseRun};
 
+use crate::allowance::Allowance;
 use crate::feed::{Feed, Feeding, Spot, Taken, agree};
 use crate::halt::Halt;
 use crate::means::Means;
+use crate::pace::Pace;
+use crate::team::{Team, teams_of, work_in_turn};
 use crate::text::Text;
-use crate::work::{Worked, work};
+use crate::work::Worked;
 use crate::worker::Worker;
 use board_core::BoardState;
 use board_io::Gate;
@@ -60,6 +62,7 @@ pub(crate) fn run_phase<
     deliveries: &Deliveries,
     feed: &'a Feed<F>,
     from: Spot,
+    allowance: &mut Allowance,
 ) -> Result<RanPhase<'a, F>, Halt>
     requires table { blank.0 ≡ N.table }
     requires blank { blank.1 ≡ N.state }
@@ -76,16 +79,18 @@ pub(crate) fn run_phase<
     let format = state.format();
     let (board, passes) = SharedBoard::<N>::new(alloc, blank, state, cpus)?;
     let shared = &board;
-    let workers = Schedule::new(u64::from(cpus));
+    let apart = apart_in(rt, feed, from, allowance)?;
+    let teams = teams_of(alloc, passes, apart)?;
+    let workers = Schedule::new(teams.len() as u64);
     let schedule = &workers;
+    let seed = allowance.seed();
     let Ok(results) = map_vec(
         rt,
-        passes,
-        &move |pass: Pass<N>| -> Result<Worked<'_, N, F>, Halt>
-            requires { (pass.number < N.state.cpus) × ((mine pass ≡ []) × (pass.misses ≡ []))
+        teams,
+        &move |team: Team<N>| -> Result<Vec<Worked<'_, N, F>>, Halt>
+            requires { AreFresh N.state team.passes.items
                 × (cpus ≡ N.state.cpus) × (format ≡ N.state.format) }
-            ensures { IfOk result (λ w. HasRun N.state deliveries.entry.now
-                w.taken.items w.end pass.number w.pass w.text.items) }
+            ensures { IfOk result (λ ws. HaveRun N.state deliveries.entry.now ws.items) }
         {
             let worker = Worker {
                 rt,
@@ -95,18 +100,26 @@ pub(crate) fn run_phase<
                 cpus,
                 format,
             };
-            work(&worker, alloc, schedule, feed, from, pass)
+            work_in_turn(
+                &worker,
+                alloc,
+                Pace::new(schedule, team.number, seed),
+                feed,
+                from,
+                team.passes,
+            )
         },
     ) else {
         return Err(Halt::NoMemory);
     };
+    allowance.note(schedule);
     let Gathered {
         passes,
         text,
         taken,
         end,
         next,
-    } = gather(alloc, results)?;
+    } = gather(alloc, cpus, results)?;
     let stopped = match board.stop(passes) {
         Ok(stopped) => stopped,
         Err(_out) => unreachable!(),
@@ -120,53 +133,81 @@ pub(crate) fn run_phase<
     })
 }
 
+/// The processors that want threads of their own, by the first part of a phase.
+fn apart_in<F: Feeding, R: Wait>(
+    rt: &R,
+    feed: &Feed<F>,
+    from: Spot,
+    allowance: &mut Allowance,
+) -> Result<u64, Halt> {
+    let shown = feed.take(rt, from.piece)?;
+    match feed.piece(&shown)?.part(from.part) {
+        Some(part) => Ok(allowance.apart(part)),
+        None => Err(Halt::Closed),
+    }
+}
+
 /// The passes, and the texts of the workers one after another. All have taken the same parts.
 fn gather<'a, N: Name, F: Feeding>(
     alloc: Global,
-    results: Vec<Result<Worked<'a, N, F>, Halt>>,
+    cpus: u8,
+    results: Vec<Result<Vec<Worked<'a, N, F>>, Halt>>,
 ) -> Result<Gathered<'a, N, F>, Halt>
-    ensures len { IfOk result (λ g. vec_len g.passes ≡ vec_len results.entry) }
+    ensures len { IfOk result (λ g. vec_len g.passes ≡ cpus) }
     ensures all { IfOk result (λ g. (ds : Deliveries) → AllRan results.entry.items N.state ds
         → GatheredAll N.state ds g.taken.items g.end g.passes.items g.text) }
 {
-    let mut passes = Vec::new(alloc);
-    let mut text = Text::new(alloc);
-    let mut taken = Vec::new(alloc);
-    let mut end = End::Finish;
-    let mut next = Spot { piece: 0, part: 0 };
+    let mut gathered = Gathered {
+        passes: Vec::new(alloc),
+        text: Text::new(alloc),
+        taken: Vec::new(alloc),
+        end: End::Finish,
+        next: Spot { piece: 0, part: 0 },
+    };
     for result in results {
-        let worked = result?;
-        let parts = worked.taken;
-        if !is_same(passes.len(), &taken, &parts) {
-            return Err(Halt::Closed);
-        }
-        taken = parts;
-        end = worked.end;
-        next = worked.next;
-        let Ok(()) = passes.push(worked.pass) else {
-            return Err(Halt::NoMemory);
-        };
-        text.append(worked.text)?;
+        let team = result?;
+        gathered.add_all(team)?;
     }
-    if passes.is_empty() {
+    if gathered.passes.is_empty() || gathered.passes.len() != usize::from(cpus) {
         return Err(Halt::Closed);
     }
-    Ok(Gathered {
-        passes,
-        text,
-        taken,
-        end,
-        next,
-    })
+    Ok(gathered)
 }
 
-/// Whether parts are those that so many workers have taken.
-fn is_same<'a, F: Feeding>(
-    workers: usize,
-    taken: &Vec<Taken<'a, F>>,
-    parts: &Vec<Taken<'a, F>>,
-) -> bool
-    ensures { OnTrue result (0 < workers → taken.now.items ≡ parts.now.items) }
-{
-    workers == 0 || agree(taken, parts)
+impl<'a, N: Name, F: Feeding> Gathered<'a, N, F> {
+    /// Adds what the workers of a team gave.
+    fn add_all(&mut self, team: Vec<Worked<'a, N, F>>) -> Result<(), Halt>
+        ensures { OnOk result ((ds : Deliveries) → HaveRun N.state ds team.entry.items
+            → Gathers N.state ds self.old → Gathers N.state ds self.new) }
+    {
+        for worked in team {
+            self.add(worked)?;
+        }
+        Ok(())
+    }
+
+    /// Adds what the worker of the next processor gave, which has taken the same parts as those before it.
+    fn add(&mut self, worked: Worked<'a, N, F>) -> Result<(), Halt>
+        ensures { OnOk result ((ds : Deliveries) → HasRunOwn N.state ds worked.entry
+            → Gathers N.state ds self.old → Gathers N.state ds self.new) }
+    {
+        if worked.pass.number() != self.passes.len() as u64 || !self.has_taken(&worked.taken) {
+            return Err(Halt::Closed);
+        }
+        self.text.append(worked.text)?;
+        let Ok(()) = self.passes.push(worked.pass) else {
+            return Err(Halt::NoMemory);
+        };
+        self.taken = worked.taken;
+        self.end = worked.end;
+        self.next = worked.next;
+        Ok(())
+    }
+    /// Whether the workers so far have taken these parts.
+    fn has_taken(&self, parts: &Vec<Taken<'a, F>>) -> bool
+        ensures { OnTrue result
+            (0 < length self.now.passes.items → self.now.taken.items ≡ parts.now.items) }
+    {
+        self.passes.is_empty() || agree(&self.taken, parts)
+    }
 }

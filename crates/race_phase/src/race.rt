@@ -3,6 +3,7 @@ ghost use Rattle.std.specs.Prelude.{◌≡◌, ◌++◌, [], None, IfOk, IfSome,
 ghost use Rattle.race_phase.specs.Phases.{trace_fault, race_text};
 ghost use Rattle.race_phase.specs.private.Feed.{PhaseHasEnded, board_or};
 
+use crate::allowance::Allowance;
 use crate::feed::{Feed, Feeding, Spot, Taken};
 use crate::halt::Halt;
 use crate::means::Means;
@@ -53,11 +54,20 @@ pub fn run_race<'a, F: Feeding + Send + Sync, R: Threads + Wait + Sync, G: Gate 
     let means = Means { rt, alloc, gate };
     let mut text = Text::new(alloc);
     let mut taken = Vec::new(alloc);
+    let mut allowance = Allowance::new();
     let mut left = None;
     let mut from = Spot { piece: 0, part: 0 };
     for _phase in 0..MOST_PHASES {
         let state = opens_with(&opening.state, &left);
-        let ended = run_and_end(&means, state, &opening.deliveries, feed, from, &mut text)?;
+        let ended = run_and_end(
+            &means,
+            state,
+            &opening.deliveries,
+            feed,
+            from,
+            &mut allowance,
+            &mut text,
+        )?;
         join_parts(&mut taken, ended.taken)?;
         from = ended.next;
         if ended.end == End::Finish {
@@ -116,6 +126,7 @@ fn run_and_end<'a, F: Feeding + Send + Sync, R: Threads + Wait + Sync, G: Gate +
     deliveries: &Deliveries,
     feed: &'a Feed<F>,
     from: Spot,
+    allowance: &mut Allowance,
     text: &mut Text,
 ) -> Result<EndedPhase<'a, F>, Halt>
     ensures { IfOk result (λ g. PhaseHasEnded state.now deliveries.now g.taken.items g.end
@@ -128,7 +139,7 @@ fn run_and_end<'a, F: Feeding + Send + Sync, R: Threads + Wait + Sync, G: Gate +
         taken,
         end,
         next,
-    } = run_phase::<Brand, F, R, G>(means, blank, state, deliveries, feed, from)?;
+    } = run_phase::<Brand, F, R, G>(means, blank, state, deliveries, feed, from, allowance)?;
     if board.cpus() != state.cpus() || board.format() != state.format() {
         return Err(Halt::Closed);
     }

@@ -16,7 +16,6 @@ use shared_board::Pass;
 use std::alloc::Global;
 use std::sync::Wait;
 use trace_blocks::End;
-use worker_turns::Schedule;
 
 /// How many parts a phase has at most: a trace has fewer.
 const MOST_PARTS: usize = 1 << 20;
@@ -38,7 +37,7 @@ pub(crate) struct Worked<'a, N: Name, F: Feeding> {
 pub(crate) fn work<'a, N: Name, F: Feeding, R: Wait, G: Gate>(
     worker: &Worker<'_, N, R, G>,
     alloc: Global,
-    schedule: &Schedule,
+    pace: &mut Pace<'_>,
     feed: &'a Feed<F>,
     from: Spot,
     pass: Pass<N>,
@@ -53,7 +52,6 @@ pub(crate) fn work<'a, N: Name, F: Feeding, R: Wait, G: Gate>(
     let cpu = pass.number();
     let mut working = Working::new(alloc, pass)?;
     let mut taken = Vec::new(alloc);
-    let mut pace = Pace::new(schedule, cpu);
     let mut at = from;
     for done in 0..MOST_PARTS {
         let shown = feed.take(worker.rt, at.piece)?;
@@ -64,7 +62,7 @@ pub(crate) fn work<'a, N: Name, F: Feeding, R: Wait, G: Gate>(
             working.make_room(left);
             pace.start(worker.rt, left);
         }
-        working.take(worker, &mut pace, &part.records, left)?;
+        working.take(worker, pace, &part.records, left)?;
         let end = part.end;
         let next = after(piece, at);
         let Ok(()) = taken.push(Taken::of(shown, at.part)) else {

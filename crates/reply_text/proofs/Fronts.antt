@@ -445,20 +445,6 @@ front_stays line number start end text new front same =
           (sym (take-take start end text le) ∙ ap (take start) (sym same) ∙ take-take start end new le);
     }
 
--- two and three digits
-pub two_digits : (n : ℕ) → 10 ≤ n → n < 100 → decimal n ≡ (48 + n / 10) ∷ (48 + n % 10) ∷ []
-two_digits n least most =
-    decimal_step n least (omega arith) ∙ ap (λ (t : List ℕ). t ++ (48 + n % 10) ∷ []) (decimal_digit (n / 10) (omega arith))
-
-pub three_digits : (n : ℕ) → 100 ≤ n → n < 1000
-    → decimal n ≡ (48 + n / 100) ∷ (48 + n / 10 % 10) ∷ (48 + n % 10) ∷ []
-three_digits n least most =
-    let high : n / 10 / 10 ≡ n / 100 = omega arith in
-    decimal_step n (omega arith) (omega arith)
-    ∙ ap (λ (t : List ℕ). t ++ (48 + n % 10) ∷ [])
-    (two_digits (n / 10) (omega arith) (omega arith)
-    ∙ ap (λ (x : ℕ). (48 + x) ∷ (48 + n / 10 % 10) ∷ []) high)
-
 -- a word after a word
 pub chain : (p w v x y : List ℕ) → x ≡ p ++ w → y ≡ x ++ v → y ≡ p ++ (w ++ v)
 chain p w v x y e f = f ∙ ap (λ (t : List ℕ). t ++ v) e ∙ append_assoc p w v

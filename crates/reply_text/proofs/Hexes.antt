@@ -38,47 +38,35 @@ use Rattle.std.proofs.Common.{
 }
 use Rattle.std.specs.Char.{digit_char}
 use Rattle.std.proofs.Math.Seq.{take-append_seam}
-use Rattle.std.proofs.lemmas.Bool.{lt-ltb}
 use Rattle.std.proofs.lemmas.List.{take-append-drop}
 use lib.Ieee.Fits.{and_l, and_r}
 use Rattle.reply_text.specs.Words.{hex_text, hexes}
-use Rattle.reply_text.specs.declared.digits.TheConstants.{DECIMALS, PAIRS}
+use Rattle.reply_text.specs.declared.digits.TheConstants.{PAIRS}
 
--- a decimal digit
-below_ten : (d : ℕ) → d < 10 → digit_char d ≡ 48 + d
-below_ten d h = rw (lt-ltb d 10 h) refl
+-- a table has the two digits of the first numbers
+abbrev are_pairs : List ℕ → ℕ → Bool
+are_pairs table zero = true
+are_pairs table (suc n) =
+    eqb (get_or table (2 * n) 0) (digit_char (n / 16))
+    && (eqb (get_or table (2 * n + 1) 0) (digit_char (n % 16)) && are_pairs table n)
 
--- a table has the two digits of the first numbers in a base
-abbrev are_pairs : List ℕ → ℕ → ℕ → Bool
-are_pairs table base zero = true
-are_pairs table base (suc n) =
-    eqb (get_or table (2 * n) 0) (digit_char (n / base))
-    && (eqb (get_or table (2 * n + 1) 0) (digit_char (n % base)) && are_pairs table base n)
-
-pairs_below : (table : List ℕ) (base n b : ℕ) → T (are_pairs table base n) → b < n
-    → (get_or table (2 * b) 0 ≡ digit_char (b / base)) × (get_or table (2 * b + 1) 0 ≡ digit_char (b % base))
-pairs_below table base zero b t h = absurd (omega arith)
-pairs_below table base (suc n) b t h =
-    let high : Bool = eqb (get_or table (2 * n) 0) (digit_char (n / base)) in
-    let low : Bool = eqb (get_or table (2 * n + 1) 0) (digit_char (n % base)) in
-    let more : T (low && are_pairs table base n) = and_r high (low && are_pairs table base n) t in
+pairs_below : (table : List ℕ) (n b : ℕ) → T (are_pairs table n) → b < n
+    → (get_or table (2 * b) 0 ≡ digit_char (b / 16)) × (get_or table (2 * b + 1) 0 ≡ digit_char (b % 16))
+pairs_below table zero b t h = absurd (omega arith)
+pairs_below table (suc n) b t h =
+    let high : Bool = eqb (get_or table (2 * n) 0) (digit_char (n / 16)) in
+    let low : Bool = eqb (get_or table (2 * n + 1) 0) (digit_char (n % 16)) in
+    let more : T (low && are_pairs table n) = and_r high (low && are_pairs table n) t in
     elim (eq-zero-or-pos (n - b)) [
       | inl z ↦
           let e : b ≡ n = omega arith in
-          rw e (eqb→eq _ _ (and_l high (low && are_pairs table base n) t), eqb→eq _ _ (and_l low (are_pairs table base n) more))
-      | inr g ↦ pairs_below table base n b (and_r low (are_pairs table base n) more) (omega arith)
+          rw e (eqb→eq _ _ (and_l high (low && are_pairs table n) t), eqb→eq _ _ (and_l low (are_pairs table n) more))
+      | inr g ↦ pairs_below table n b (and_r low (are_pairs table n) more) (omega arith)
     ]
 
--- the tables of pairs of digits
 pub PAIRS_at : (b : ℕ) → b < 256
     → (get_or PAIRS (2 * b) 0 ≡ digit_char (b / 16)) × (get_or PAIRS (2 * b + 1) 0 ≡ digit_char (b % 16))
-PAIRS_at b h = pairs_below PAIRS 16 256 b tt h
-
-pub DECIMALS_at : (b : ℕ) → b < 100
-    → (get_or DECIMALS (2 * b) 0 ≡ 48 + b / 10) × (get_or DECIMALS (2 * b + 1) 0 ≡ 48 + b % 10)
-DECIMALS_at b h =
-    let both = pairs_below DECIMALS 10 100 b tt h in
-    (both.0 ∙ below_ten (b / 10) (omega arith), both.1 ∙ below_ten (b % 10) (omega arith))
+PAIRS_at b h = pairs_below PAIRS 256 b tt h
 
 -- one digit more, by a number that counts down
 pub hex_text-more : (k j n : ℕ) → k ≡ j + 1 → hex_text k n ≡ hex_text j (n / 16) ++ digit_char (n % 16) ∷ []

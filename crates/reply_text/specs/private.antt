@@ -1,5 +1,4 @@
 -- What proofs and private contracts alone cite.
 pub mod Appended
-pub mod Eight
 pub mod Front
 pub mod Readings

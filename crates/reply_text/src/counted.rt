@@ -11,32 +11,28 @@ ghost use Rattle.std.specs.Prelude.{
   set,
   length,
   take,
-  IsTrue,
   OnOk,
   OnErr,
-  OnSome,
   MatchOption,
   vec_len,
   vec_capacity,
 };
 ghost use Rattle.std.specs.Bool.{OnTrue, OnFalse};
 ghost use Rattle.reply_text.specs.Words.{spaced};
-ghost use Rattle.reply_text.specs.Text.{value_text, value_words, clock_text, edge_text};
+ghost use Rattle.reply_text.specs.Text.{value_text, value_words, clock_text};
 
 use crate::clock::put_clock;
-use crate::edges::EdgeFront;
 use crate::forward::{DIGITS, ROOM, append_line, put_byte, put_hex, put_number};
 use crate::replies::value_line;
 use board_types::{Reply, Value};
 use clk_units::NoMemory;
-use edge_hooks::Delivery;
-use irq_edges::Edge;
 use itoa::write_digits;
 use pvclock_page::ClockReply;
 use std::marker::Model;
 
 /// The beginning of the last reply's line, which is kept for the next: the line of the record and the number of the
-/// access. Mostly each of them is one more, and one byte differs.
+/// access. Mostly each of them is one more, and one byte differs. A line of a byte takes 118 instructions so, as callgrind
+/// counts them, where `value_line`, which has itoa write both numbers, takes 154 for short ones and 177 for long ones.
 #[derive(Drop)]
 pub struct CountedLines {
     line: u64,
@@ -45,8 +41,6 @@ pub struct CountedLines {
     text: [u8; ROOM],
     start: usize,
     end: usize,
-    /// The beginning of the last edge's line, which is kept for the next.
-    edges: EdgeFront,
 }
 
 impl Model for CountedLines {
@@ -73,7 +67,6 @@ impl CountedLines {
             text,
             start: DIGITS - 1,
             end: DIGITS + 2,
-            edges: EdgeFront::new(),
         }
     }
 
@@ -123,24 +116,6 @@ impl CountedLines {
         let mut text = self.text;
         let end = put_clock(reply, &mut text);
         append_line(&text, self.start, end, out)
-    }
-
-    /// The line of an edge, as `edge_line` has it. The numbers of the record and the access stay.
-    #[inline(always)]
-    pub fn edge_line(
-        &mut self,
-        edge: &Edge,
-        to: Option<Delivery>,
-        out: &mut Vec<u8>,
-    ) -> Result<(), NoMemory>
-        requires { OnSome to (IsTrue edge.now.up) }
-        ensures same { self.new ≡ self.old }
-        ensures ok { OnOk result (out.new.items ≡ out.old.items ++ edge_text edge.now to) }
-        ensures err { OnErr result (out.new.items ≡ out.old.items) }
-        ensures full { OnErr result (vec_capacity out.old
-            < vec_len out.old + length (edge_text edge.now to)) }
-    {
-        self.edges.line(edge, to, out)
     }
 
     /// The line of the record is this now, most likely one more than the last.

@@ -20,8 +20,9 @@ ghost use Rattle.std.specs.Prelude.{
 };
 ghost use Rattle.reply_text.specs.Words.{hex_text};
 
-use crate::digits::{write_hex, write_number};
+use crate::digits::write_hex;
 use clk_units::NoMemory;
+use itoa::write_digits;
 
 /// The bytes of a line, and as many after it as are copied at once.
 pub(crate) const ROOM: usize = 96;
@@ -41,26 +42,6 @@ pub(crate) fn put_word(word: &[u8], text: &mut [u8; ROOM], at: usize) -> usize
     end
 }
 
-/// Puts a number below 256 at a place, and returns where it ends.
-#[inline(always)]
-#[tactic(auto, using(std::proofs::lemmas::Fmt::decimal_digit))]
-pub(crate) fn put_small(n: u8, text: &mut [u8; ROOM], at: usize) -> usize
-    requires { at + 3 ≤ ROOM }
-    ensures short { (at ≤ result) × (result ≤ at + 3) }
-    ensures written { take result text.new ≡ take at text.old ++ decimal n }
-{
-    if n < 10 {
-        return put_digit(n, text, at);
-    }
-    if n < 100 {
-        let at = put_digit(n / 10, text, at);
-        return put_digit(n % 10, text, at);
-    }
-    let at = put_digit(n / 100, text, at);
-    let at = put_digit(n / 10 % 10, text, at);
-    put_digit(n % 10, text, at)
-}
-
 /// Puts a number at a place, and returns where it ends.
 #[inline(always)]
 pub(crate) fn put_number(n: u64, text: &mut [u8; ROOM], at: usize) -> usize
@@ -70,7 +51,7 @@ pub(crate) fn put_number(n: u64, text: &mut [u8; ROOM], at: usize) -> usize
     ensures written { take result text.new ≡ take at text.old ++ decimal n }
 {
     let mut digits = [0; 2 * DIGITS];
-    let start = write_number(n, &mut digits, DIGITS);
+    let start = write_digits(n, &mut digits, DIGITS);
     put_digits(&digits, start, text, at)
 }
 
@@ -82,7 +63,7 @@ pub(crate) fn put_number_twice(n: u64, text: &mut [u8; ROOM], at: usize) -> usiz
     ensures written { take result text.new ≡ take at text.old ++ (decimal n ++ 32 ∷ decimal n) }
 {
     let mut digits = [0; 2 * DIGITS];
-    let start = write_number(n, &mut digits, DIGITS);
+    let start = write_digits(n, &mut digits, DIGITS);
     let at = put_digits(&digits, start, text, at);
     let at = put_byte(b' ', text, at);
     put_digits(&digits, start, text, at)
@@ -99,17 +80,6 @@ fn put_digits(digits: &[u8; 2 * DIGITS], start: usize, text: &mut [u8; ROOM], at
 {
     text[at..at + DIGITS].copy_from_slice(&digits[start..start + DIGITS]);
     at + (DIGITS - start)
-}
-
-/// Puts a digit at a place, and returns where it ends.
-#[inline(always)]
-fn put_digit(n: u8, text: &mut [u8; ROOM], at: usize) -> usize
-    requires digit { n < 10 }
-    requires room { at < ROOM }
-    ensures end { result ≡ at + 1 }
-    ensures written { take result text.new ≡ take at text.old ++ (48 + n) ∷ [] }
-{
-    put_byte(b'0' + n, text, at)
 }
 
 /// Puts a byte at a place, and returns where it ends.

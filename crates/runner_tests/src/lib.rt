@@ -3,5 +3,6 @@
 
 #[cfg(test)]
 mod checks;
+pub mod known;
 #[cfg(test)]
 mod trace_runner_tests;

@@ -5,11 +5,13 @@ ghost use Rattle.std.specs.Prelude.{◌<◌};
 mod devices;
 mod failures;
 mod gates;
+mod processors;
 mod races;
 mod sources;
 mod texts;
 
 use crate::checks::same;
+use crate::known::run_known;
 use board_io::{MemSink, MemSource, OpenGate};
 use clk_units::RANGE_NS;
 use std::alloc::{AllocError, Global};
@@ -19,7 +21,7 @@ use std::sync::Wait;
 use std::test::Fail;
 use std::thread::Threads;
 use texts::{GEN_HELP, HELP, USAGE, VERSION};
-use trace_runner::{Status, run};
+use trace_runner::Status;
 use trace_text::Reason;
 
 /// Counter 0 in mode 2 with count 4, and what is printed.
@@ -95,7 +97,7 @@ fn told<R: Threads + Wait + Sync + Alloc<A = Global>>(
     let sink_fails = Vec::from_slice(alloc, ends.sink_fails)?;
     let mut source = MemSource::new(bytes, source_fails, ends.source_piece);
     let mut sink = MemSink::new(alloc, sink_fails, ends.sink_piece);
-    let status = run(rt, alloc, &words, &mut source, &mut sink, &OpenGate);
+    let status = run_known(rt, alloc, &words, &mut source, &mut sink, &OpenGate);
     let text = Vec::from_slice(alloc, sink.bytes())?;
     Ok((status, text))
 }

@@ -2,19 +2,20 @@
 use Rattle.save_state.proofs.Names.{option_or, fault_in, one_fault, Row, StateFault, Short, Fields, fault_at, row_fault, ◌≡◌, ℕ, ◌+◌, Bool, true, false, cond}
 use Rattle.save_state.proofs.Names.{ltb, List, [], ◌∷◌, length, Option, Some, None, refl, sym, ◌∙◌, BoardParts, Field, apic, scale_for, reference, field}
 use Rattle.save_state.proofs.Names.{processor_rows, ◌⨾◌, row_spelled-each, up_allowed, tsc, page, processor, wall, rises, Message, message, version_valid}
-use Rattle.save_state.proofs.Names.{published_valid, apic_timer, apic_line, magic, khz_valid, host_valid, head, host, guest, policies, front, clock, registers}
-use Rattle.save_state.proofs.Names.{counter, timer, line, plain, rows, elsewhere, Apic, Magic, Version, Invalid, legacy_rises_valid, routed_rises_valid}
-use Rattle.save_state.proofs.Names.{processors_of, LAST_FORMAT, SLEW_MAX_NS, now_of, byte_at, number_at, flag_valid, number, byte, initial_valid, current_valid}
-use Rattle.save_state.proofs.Names.{phase_valid, deadline_valid, HvParts, ProcessorParts, MOST_ACCESSES, has_messages, cycle_valid, TickParts, queue_valid}
+use Rattle.save_state.proofs.Names.{published_valid, apic_timer, apic_line, head, host, guest, policies, front, clock, registers}
+use Rattle.save_state.proofs.Names.{counter, timer, line, plain, rows, elsewhere, Apic, Invalid, legacy_rises_valid, routed_rises_valid}
+use Rattle.save_state.proofs.Names.{now_of, number, byte, initial_valid, current_valid}
+use Rattle.save_state.proofs.Names.{phase_valid, deadline_valid, HvParts, ProcessorParts, has_messages, cycle_valid, TickParts, queue_valid}
 use Rattle.save_state.proofs.Names.{lost_valid, mul_for, shift_for, lvt_valid, divide_valid, latched_status_valid, TimerParts, config_valid, comparator_valid}
-use Rattle.save_state.proofs.Names.{period_valid, index_valid, bytes_valid, divider_valid, RANGE_NS, CounterParts, bits_valid, flags_valid, cr_valid, ce_valid}
+use Rattle.save_state.proofs.Names.{period_valid, index_valid, bytes_valid, divider_valid, CounterParts, bits_valid, flags_valid, cr_valid, ce_valid}
 use Rattle.save_state.proofs.Names.{part_valid, read_order_valid, latched_count_valid, ◌*◌, leb, eqb, not, ◌&&◌, ◌||◌, ap, arith, w8, cast_unsigned, drop_more}
-use Rattle.save_state.proofs.Names.{drop_all, ◌<◌, ◌≤◌, drop, get_or, lt-ltb, le-ltb}
+use Rattle.save_state.proofs.Names.{drop_all, ◌<◌, ◌≤◌, drop, get_or, lt-ltb, le-ltb, and_parts, spelled, flag_field, rows_size, size_of, ◌++◌, trailing}
+use Rattle.save_state.proofs.Names.{row_value, board_in, front_of, front_rows, fault_in-append, size_of-append, option_or-assoc, option_or-none, takes}
 
 -- a row of a field
 pub record IsRow {P : Type 0} (f : Field StateFault BoardParts P) (b : BoardParts) (p : P) (place : ℕ) (bytes : List ℕ) (r : Row) : Type 0 where
   pub size : f.size ≡ r.size
-  pub fault : f.fault b p place bytes ≡ one_fault (fault_at Short) (fault_at r.kind) r.size r.valid place bytes
+  pub fault : f.fault b p place bytes ≡ one_fault (fault_at Short) (fault_at r.kind) r.size (spelled r place bytes && r.valid) place bytes
 
 -- the rows of a list; a field that has none has no fault
 abbrev pub AreRows : {P : Type 0} → Fields P → BoardParts → P → ℕ → List ℕ → List Row → Type 0
@@ -37,7 +38,7 @@ walked [] b p place bytes (r ∷ rows) all = absurd all
 walked (f ∷ fs) b p place bytes [] all =
     walked fs b p (place + f.size) bytes [] all.1 ∙ (λ i. option_or (sym all.0 i) (fault_in fs b p (place + f.size) bytes))
 walked (f ∷ fs) b p place bytes (r ∷ rows) all =
-    by-cases (ltb (length bytes) (place + r.size)) r.valid (record { place = length bytes; kind = Short }) (record { place = place; kind = r.kind })
+    by-cases (ltb (length bytes) (place + r.size)) (spelled r place bytes && r.valid) (record { place = length bytes; kind = Short }) (record { place = place; kind = r.kind })
     (row_fault bytes (place + r.size) rows)
     ∙ (λ i. option_or (sym all.0.fault i) (walked fs b p (place + r.size) bytes rows all.1 i))
     ∙ (λ i. option_or (f.fault b p place bytes) (fault_in fs b p (place + sym all.0.size i) bytes))
@@ -48,16 +49,16 @@ rows-are fs b p place bytes rows all = sym (walked fs b p place bytes rows all)
 
 -- a row that is its field as it is
 is : {P : Type 0} {f : Field StateFault BoardParts P} {b : BoardParts} {p : P} {place : ℕ} {bytes : List ℕ} {r : Row} → f.size ≡ r.size
-    → f.fault b p place bytes ≡ one_fault (fault_at Short) (fault_at r.kind) r.size r.valid place bytes → IsRow f b p place bytes r
+    → f.fault b p place bytes ≡ one_fault (fault_at Short) (fault_at r.kind) r.size (spelled r place bytes && r.valid) place bytes → IsRow f b p place bytes r
 is e e' = record { size = e; fault = e' }
 
 pub counter-rows : (k : ℕ) (b : BoardParts) (c : CounterParts) (p : ℕ) (bytes : List ℕ)
     → fault_in (counter k) b c p bytes ≡ row_fault bytes p (field 1 (bits_valid c) ∷ field 1 (flags_valid c && (c.gate || leb 2 k)) ∷ field 2 (cr_valid c)
-    ∷ field 2 (ce_valid c) ∷ field 2 (flag_valid (p + 6) bytes && part_valid c) ∷ field 1 (flag_valid (p + 8) bytes && read_order_valid c)
-    ∷ field 3 (flag_valid (p + 9) bytes && latched_count_valid c) ∷ field 2 (flag_valid (p + 12) bytes && latched_status_valid c) ∷ [])
+    ∷ field 2 (ce_valid c) ∷ flag_field 2 (part_valid c) ∷ flag_field 1 (read_order_valid c) ∷ flag_field 3 (latched_count_valid c)
+    ∷ flag_field 2 (latched_status_valid c) ∷ [])
 unfolding counter plain
 counter-rows k b c p bytes =
-    rows-are (counter k) b c p bytes _ (is refl refl ⨾ is refl refl ⨾ is refl refl ⨾ is refl refl ⨾ is refl (grind arith) ⨾ is refl (grind arith)
+    rows-are (counter k) b c p bytes _ (is refl refl ⨾ is refl refl ⨾ is refl refl ⨾ is refl refl ⨾ is refl (grind arith) ⨾ is refl refl
     ⨾ is refl (grind arith) ⨾ is refl (grind arith) ⨾ tt)
 
 pub timer-rows : (k : ℕ) (b : BoardParts) (t : TimerParts) (p : ℕ) (bytes : List ℕ)
@@ -66,7 +67,7 @@ unfolding timer plain
 timer-rows k b t p bytes = rows-are (timer k) b t p bytes _ (is refl refl ⨾ is refl refl ⨾ is refl refl ⨾ tt)
 
 pub line-rows : (k : ℕ) (b : BoardParts) (l : TickParts) (p : ℕ) (bytes : List ℕ)
-    → fault_in (line k) b l p bytes ≡ row_fault bytes p (field 1 (flag_valid p bytes && up_allowed b k l.up)
+    → fault_in (line k) b l p bytes ≡ row_fault bytes p (flag_field 1 (up_allowed b k l.up)
     ∷ field 8 (leb l.counts.due (now_of b + b.accesses)) ∷ field 8 true ∷ field 8 (queue_valid l) ∷ field 8 (lost_valid l) ∷ [])
 unfolding line plain elsewhere
 line-rows k b l p bytes = rows-are (line k) b l p bytes _ (is refl refl ⨾ is refl refl ⨾ is refl refl ⨾ is refl refl ⨾ is refl refl ⨾ refl ⨾ tt)
@@ -85,31 +86,27 @@ pub wall-rows : (b : BoardParts) (p : ℕ) (bytes : List ℕ)
 unfolding wall plain
 wall-rows b p bytes = rows-are wall b b p bytes _ (is refl refl ⨾ is refl refl ⨾ is refl refl ⨾ is refl refl ⨾ tt)
 
-pub clock-rows : (b : BoardParts) (bytes : List ℕ)
-    → fault_in clock b b 121 bytes ≡ row_fault bytes 121 (field 1 (flag_valid 121 bytes) ∷ field 1 (index_valid b.rtc) ∷ field 128 (bytes_valid b.rtc)
-    ∷ field 2 (divider_valid b.rtc) ∷ field 1 (flag_valid 253 bytes && cycle_valid b.rtc) ∷ [])
+pub clock-rows : (b : BoardParts) (p : ℕ) (bytes : List ℕ)
+    → fault_in clock b b p bytes ≡ row_fault bytes p (flag_field 1 true ∷ field 1 (index_valid b.rtc) ∷ field 128 (bytes_valid b.rtc)
+    ∷ field 2 (divider_valid b.rtc) ∷ flag_field 1 (cycle_valid b.rtc) ∷ [])
 unfolding clock plain rows
-clock-rows b bytes =
-    rows-are clock b b 121 bytes _ (is refl (grind arith) ⨾ is refl refl
-    ⨾ is refl (ap (λ (s : Bool). one_fault (fault_at Short) (fault_at Invalid) 128 (s && bytes_valid b.rtc) 123 bytes) (row_spelled-each byte bytes (λ place. refl) 128 123))
+clock-rows b p bytes =
+    let at : ℕ = p + 1 + 1 in
+    rows-are clock b b p bytes _ (is refl refl ⨾ is refl refl
+    ⨾ is refl (ap (λ (s : Bool). one_fault (fault_at Short) (fault_at Invalid) 128 (s && bytes_valid b.rtc) at bytes) (row_spelled-each byte bytes (λ place. refl) 128 at))
     ⨾ is refl refl ⨾ is refl refl ⨾ tt)
 
-pub registers-rows : (b : BoardParts) (bytes : List ℕ)
-    → fault_in registers b b 254 bytes ≡ row_fault bytes 254 (field 1 (leb b.hpet.config 3) ∷ field 1 (leb 2 b.format || leb b.hpet.status 7) ∷ field 8 true
+pub registers-rows : (b : BoardParts) (p : ℕ) (bytes : List ℕ)
+    → fault_in registers b b p bytes ≡ row_fault bytes p (field 1 (leb b.hpet.config 3) ∷ field 1 (leb 2 b.format || leb b.hpet.status 7) ∷ field 8 true
     ∷ [])
 unfolding registers plain
-registers-rows b bytes = rows-are registers b b 254 bytes _ (is refl refl ⨾ is refl refl ⨾ is refl refl ⨾ tt)
+registers-rows b p bytes = rows-are registers b b p bytes _ (is refl refl ⨾ is refl refl ⨾ is refl refl ⨾ tt)
 
-pub head-rows : (b : BoardParts) (bytes : List ℕ)
-    → fault_in front b b 0 bytes ≡ row_fault bytes 0 (record { size = 8; valid = eqb (number_at 8 0 bytes) magic; kind = Magic }
-    ∷ record { size = 2; valid = leb 1 b.format && leb b.format LAST_FORMAT; kind = Version } ∷ field 2 (leb 1 b.cpus && leb b.cpus (processors_of b.format))
-    ∷ field 8 (khz_valid b.anchor.khz) ∷ field 8 true ∷ field 8 (ltb b.anchor.base_ns RANGE_NS) ∷ field 8 (host_valid b) ∷ field 8 (khz_valid b.guest_khz)
-    ∷ field 8 (leb b.accesses MOST_ACCESSES) ∷ field 8 true ∷ field 8 (leb 1 b.slew_ns && leb b.slew_ns SLEW_MAX_NS) ∷ field 1 (ltb (byte_at 76 bytes) 3)
-    ∷ field 1 (ltb (byte_at 77 bytes) 3) ∷ field 1 (ltb (byte_at 78 bytes) 3) ∷ [])
-unfolding head host guest policies plain
-head-rows b bytes =
-    rows-are front b b 0 bytes _ (is refl (grind arith) ⨾ is refl refl ⨾ is refl refl ⨾ is refl refl ⨾ is refl refl ⨾ is refl refl ⨾ is refl refl ⨾ is refl refl
-    ⨾ is refl refl ⨾ is refl refl ⨾ is refl refl ⨾ is refl (grind arith) ⨾ is refl (grind arith) ⨾ is refl (grind arith) ⨾ tt)
+pub front-rows : (bytes : List ℕ) → fault_in front (board_in bytes) (board_in bytes) 0 bytes ≡ row_fault bytes 0 (front_rows (front_of bytes))
+unfolding head host guest policies plain front_rows row_value
+front-rows bytes =
+    rows-are front (board_in bytes) (board_in bytes) 0 bytes _ (is refl (grind arith) ⨾ is refl refl ⨾ is refl refl ⨾ is refl refl ⨾ is refl refl ⨾ is refl refl
+    ⨾ is refl refl ⨾ is refl refl ⨾ is refl refl ⨾ is refl refl ⨾ is refl refl ⨾ is refl (grind arith) ⨾ is refl (grind arith) ⨾ is refl (grind arith) ⨾ tt)
 
 pub rises-rows : (counts : ℕ) (b : BoardParts) (p : ℕ) (bytes : List ℕ)
     → fault_in (rises counts) b b p bytes ≡ row_fault bytes p
@@ -122,17 +119,17 @@ rises-rows counts b p bytes =
     ⨾ tt)
 
 pub message-rows : (k : ℕ) (b : BoardParts) (m : Message) (p : ℕ) (bytes : List ℕ)
-    → fault_in (message k) b m p bytes ≡ row_fault bytes p (field 1 (flag_valid p bytes && (not (eqb k 7) || routed_rises_valid b)) ∷ field 8 true ∷ [])
+    → fault_in (message k) b m p bytes ≡ row_fault bytes p (flag_field 1 (not (eqb k 7) || routed_rises_valid b) ∷ field 8 true ∷ [])
 unfolding message plain
 message-rows k b m p bytes = rows-are (message k) b m p bytes _ (is refl refl ⨾ is refl refl ⨾ tt)
 
 pub apic-rows : (k : ℕ) (b : BoardParts) (a : Apic) (p : ℕ) (bytes : List ℕ)
     → fault_in (apic k) b a p bytes ≡ row_fault bytes p (field 4 (lvt_valid a.0) ∷ field 1 (divide_valid a.0) ∷ field 4 (initial_valid a.0)
-    ∷ field 4 (current_valid a.0) ∷ field 1 (phase_valid a.0) ∷ field 8 (deadline_valid a.0) ∷ field 1 (flag_valid (p + 22) bytes)
+    ∷ field 4 (current_valid a.0) ∷ field 1 (phase_valid a.0) ∷ field 8 (deadline_valid a.0) ∷ flag_field 1 true
     ∷ field 8 (leb a.1.counts.due (now_of b + b.accesses)) ∷ field 8 true ∷ field 8 (queue_valid a.1) ∷ field 8 (lost_valid a.1) ∷ [])
 unfolding apic_timer apic_line plain
 apic-rows k b a p bytes =
-    rows-are (apic k) b a p bytes _ (is refl refl ⨾ is refl refl ⨾ is refl refl ⨾ is refl refl ⨾ is refl refl ⨾ is refl refl ⨾ is refl (grind arith)
+    rows-are (apic k) b a p bytes _ (is refl refl ⨾ is refl refl ⨾ is refl refl ⨾ is refl refl ⨾ is refl refl ⨾ is refl refl ⨾ is refl refl
     ⨾ is refl refl ⨾ is refl refl ⨾ is refl refl ⨾ is refl refl ⨾ tt)
 
 pub reference-rows : (b : BoardParts) (x : HvParts) (p : ℕ) (bytes : List ℕ)
@@ -150,11 +147,12 @@ pub ruleset block_rows = (
   wall-rows,
   clock-rows,
   registers-rows,
-  head-rows,
+  front-rows,
   rises-rows,
   message-rows,
   apic-rows,
   reference-rows,
+  takes,
 )
 
 -- where rows have no fault, the condition of each holds
@@ -172,16 +170,16 @@ pub rows-valid : (bytes : List ℕ) (place : ℕ) (rows : List Row) → row_faul
 unfolding row_fault
 rows-valid bytes place [] none = tt
 rows-valid bytes place (r ∷ rows) none =
-    let is = passed (ltb (length bytes) (place + r.size)) r.valid _ _ (row_fault bytes (place + r.size) rows) none in
-    (is.0, rows-valid bytes (place + r.size) rows is.1)
+    let is = passed (ltb (length bytes) (place + r.size)) (spelled r place bytes && r.valid) _ _ (row_fault bytes (place + r.size) rows) none in
+    ((and_parts (spelled r place bytes) r.valid is.0).1, rows-valid bytes (place + r.size) rows is.1)
 
 abbrev none : Row
-none = record { size = 0; valid = false; kind = Short }
+none = record { size = 0; flag = false; valid = false; kind = Short }
 
 -- the fault of the rest of the rows is that of the row at a place, or of those after it
 pub row-next : (bytes : List ℕ) (at i : ℕ) (rows : List Row) → i < length rows
     → row_fault bytes at (drop i rows) ≡ cond (ltb (length bytes) (at + (get_or rows i none).size)) (Some (record { place = length bytes; kind = Short }))
-    (cond (get_or rows i none).valid (row_fault bytes (at + (get_or rows i none).size) (drop (i + 1) rows))
+    (cond (spelled (get_or rows i none) at bytes && (get_or rows i none).valid) (row_fault bytes (at + (get_or rows i none).size) (drop (i + 1) rows))
     (Some (record { place = at; kind = (get_or rows i none).kind })))
 unfolding row_fault
 row-next bytes at i rows less = ap (λ (rs : List Row). row_fault bytes at rs) (drop_more rows i none less)
@@ -191,4 +189,27 @@ pub rows-end : (bytes : List ℕ) (at i : ℕ) (rows : List Row) → length rows
 unfolding row_fault
 rows-end bytes at i rows le = ap (λ (rs : List Row). row_fault bytes at rs) (drop_all i rows le)
 
-pub ruleset walk = (row-next, rows-end, lt-ltb, le-ltb)
+-- how many bytes the rest of the rows take
+pub size-next : (i : ℕ) (rows : List Row) → i < length rows → rows_size (drop i rows) ≡ (get_or rows i none).size + rows_size (drop (i + 1) rows)
+size-next i rows less = ap (λ (rs : List Row). rows_size rs) (drop_more rows i none less)
+
+pub size-end : (i : ℕ) (rows : List Row) → length rows ≤ i → rows_size (drop i rows) ≡ 0
+size-end i rows le = ap (λ (rs : List Row). rows_size rs) (drop_all i rows le)
+
+pub ruleset walk = (row-next, rows-end, size-next, size-end, lt-ltb, le-ltb)
+
+-- lists one after the other: where the first has no fault, the first fault is that of the others; also with what may follow the last byte
+pub option_or-some : (fault : StateFault) (later : Option StateFault) → option_or (Some fault) later ≡ Some fault
+option_or-some fault later = refl
+
+pub ended : (fs gs : Fields BoardParts) (b : BoardParts) (place : ℕ) (bytes : List ℕ)
+    → option_or (fault_in (fs ++ gs) b b place bytes) (trailing (place + size_of (fs ++ gs)) bytes)
+    ≡ option_or (fault_in fs b b place bytes) (option_or (fault_in gs b b (place + size_of fs) bytes) (trailing (place + size_of fs + size_of gs) bytes))
+ended fs gs b place bytes =
+    let at : place + size_of (fs ++ gs) ≡ place + size_of fs + size_of gs = omega (arith, size_of-append fs gs) in
+    (λ i. option_or (fault_in-append fs gs b b place bytes i) (trailing (at i) bytes))
+    ∙ option_or-assoc (fault_in fs b b place bytes) (fault_in gs b b (place + size_of fs) bytes) (trailing (place + size_of fs + size_of gs) bytes)
+
+pub ruleset along = (fault_in-append, option_or-some, option_or-none, size_of-append)
+
+pub ruleset along_end = (ended, option_or-some, option_or-none)

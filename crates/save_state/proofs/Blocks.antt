@@ -270,6 +270,17 @@ pub ruleset reference_page = (written-page, written-none, fault-page, fault-none
 pub read-none : (n place : ℕ) (bytes : List ℕ) → n ≡ 0 → get_or (reference_read n place bytes) 0 no_hv ≡ no_hv
 read-none n place bytes none = ap (λ (m : ℕ). get_or (reference_read m place bytes) 0 no_hv) none
 
+-- the page that a format has, or none
+pub read-page : (format place : ℕ) (bytes : List ℕ) (b : BoardParts) → HV_FORMAT ≤ format
+    → (read (references (references_of format)) place bytes b).hv ≡ read (reference 0) place bytes no_hv
+unfolding references blocks
+read-page format place bytes b there = ap (λ (m : ℕ). get_or (reference_read m place bytes) 0 no_hv) (references-one format there)
+
+pub read-no-page : (format place : ℕ) (bytes : List ℕ) (b : BoardParts) → format < HV_FORMAT
+    → (read (references (references_of format)) place bytes b).hv ≡ no_hv
+unfolding references blocks
+read-no-page format place bytes b before = read-none (references_of format) place bytes (references-none format before)
+
 pub reference-kept : (n place : ℕ) (bytes : List ℕ) → n ≤ 1
     → write_below reference no_hv (get_or (reference_read n place bytes) 0 no_hv ∷ []) 0 n ≡ write_below reference no_hv (reference_read n place bytes) 0 n
 reference-kept zero place bytes few = refl

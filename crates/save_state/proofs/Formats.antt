@@ -1,12 +1,13 @@
 -- How many blocks a format has, how many bytes they take, versions, the six lines, and all fields by one name.
-use Rattle.std.proofs.Common.{◌≡◌, ℕ, ◌<◌, ◌≤◌, leb, arith, ◌*◌, refl, ◌%◌, Bool, true, false, eqb, ltb, ◌||◌, ◌&&◌, get_or, below_more}
+use Rattle.std.proofs.Common.{◌≡◌, ℕ, ◌+◌, ◌<◌, ◌≤◌, leb, arith, ◌*◌, refl, ◌%◌, Bool, true, false, eqb, ltb, ◌||◌, ◌&&◌, get_or, below_more}
 use Rattle.std.proofs.lemmas.Bool.{cond_both, cond-true, cond-false, le-leb, lt-leb}
 use Rattle.board_types.specs.declared.setup.TheConstants.{APIC_FORMAT, HV_FORMAT, MESSAGE_FORMAT}
 use Rattle.save_state.specs.Fields.{counts_of, references_of, messages_of, counter, timer, line, tsc, page, processor, apic_timer, apic_line, apic, reference}
 use Rattle.save_state.specs.Fields.{message, version_valid, published_valid, head, host, guest, policies, counters, clock, registers, timers, lines, rises}
-use Rattle.save_state.specs.Fields.{wall, processors, apics, references, messages}
+use Rattle.save_state.specs.Fields.{front, wall, processors, apics, references, messages}
+use Rattle.byte_table.proofs.FoldLaws.{size_of-append}
 use Rattle.{board_types.specs.Setup.timers_of, board_types.specs.Setup.processors_of, board_core.specs.Apics.apics_of, byte_table.specs.Fold.size_of}
-use Rattle.{byte_table.specs.Fold.size_below, byte_table.specs.Kinds.plain, byte_table.specs.Kinds.elsewhere, byte_table.specs.Codes.rows}
+use Rattle.{byte_table.specs.Kinds.plain, byte_table.specs.Kinds.elsewhere, byte_table.specs.Codes.rows}
 use Rattle.{byte_table.specs.Kinds.blocks, byte_table.proofs.Loops.size-below, irq_edges.specs.Lines.line_numbers, irq_edges.specs.Lines.level_of}
 use Rattle.{board_devices.specs.Lines.levels, board_devices.specs.declared.parts.DeviceParts.DeviceParts, save_state.specs.Reading.board_in}
 
@@ -65,26 +66,40 @@ pub message-size : (k : ℕ) → size_of (message k) ≡ 9
 unfolding message plain
 message-size k = refl
 
--- how many bytes n blocks take
-pub timers-take : (n : ℕ) → size_below timer 0 n ≡ 18 * n
-timers-take n = size-below timer 18 timer-size 0 n
+-- how many bytes the lists take
+pub sizes : (size_of front ≡ 79) × (size_of counters ≡ 42) × (size_of clock ≡ 133) × (size_of registers ≡ 10) × (size_of wall ≡ 20)
+unfolding head host guest policies counters counter clock registers wall plain blocks rows
+sizes = (refl, refl, refl, refl, refl)
 
-pub lines-take : (n : ℕ) → size_below line 0 n ≡ 33 * n
-lines-take n = size-below line 33 line-size 0 n
+pub timers-take : (n : ℕ) → size_of (timers n) ≡ 18 * n
+unfolding timers blocks
+timers-take n = omega (arith, size-below timer 18 timer-size 0 n)
 
-pub processors-take : (n : ℕ) → size_below processor 0 n ≡ 50 * n
-processors-take n = size-below processor 50 processor-size 0 n
+pub lines-take : (n : ℕ) → size_of (lines n) ≡ 33 * (n + 2)
+unfolding lines blocks
+lines-take n = omega (arith, size-below line 33 line-size 0 (n + 2))
 
-pub apics-take : (n : ℕ) → size_below apic 0 n ≡ 55 * n
-apics-take n = size-below apic 55 apic-size 0 n
+pub rises-take : (n : ℕ) → size_of (rises n) ≡ 8 * n
+unfolding rises rows plain
+rises-take n = omega arith
 
-pub references-take : (n : ℕ) → size_below reference 0 n ≡ 37 * n
-references-take n = size-below reference 37 reference-size 0 n
+pub processors-take : (n : ℕ) → size_of (processors n) ≡ 50 * n
+unfolding processors blocks
+processors-take n = omega (arith, size-below processor 50 processor-size 0 n)
 
-pub messages-take : (n : ℕ) → size_below message 0 n ≡ 9 * n
-messages-take n = size-below message 9 message-size 0 n
+pub apics-take : (n : ℕ) → size_of (apics n) ≡ 55 * n
+unfolding apics blocks
+apics-take n = omega (arith, size-below apic 55 apic-size 0 n)
 
-pub ruleset takes = (timers-take, lines-take, processors-take, apics-take, references-take, messages-take)
+pub references-take : (n : ℕ) → size_of (references n) ≡ 37 * n
+unfolding references blocks
+references-take n = omega (arith, size-below reference 37 reference-size 0 n)
+
+pub messages-take : (n : ℕ) → size_of (messages n) ≡ 9 * n
+unfolding messages blocks
+messages-take n = omega (arith, size-below message 9 message-size 0 n)
+
+pub ruleset takes = (sizes, timers-take, lines-take, rises-take, processors-take, apics-take, references-take, messages-take, size_of-append)
 
 -- a number, or one that is 0 where it is
 pub some-or : (n m : ℕ) → (n ≡ 0 → m ≡ 0) → (ltb 0 n || eqb m 0) ≡ true

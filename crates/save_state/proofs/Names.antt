@@ -17,12 +17,13 @@ pub use Rattle.board_types.specs.declared.setup.TheConstants.{HV_FORMAT, LAST_FO
 pub use Rattle.board_core.specs.Conditions.{AreApics, IsBoard, IsProcessor, flags_valid as page_flags_valid, IsHv, IsWall, AreProcessors, AreRises}
 pub use Rattle.byte_table.specs.Codes.{number, byte_at, byte, flag_valid, flag_at}
 pub use Rattle.std.specs.Option.{option_or}
+pub use Rattle.std.specs.Result.{result_err}
 pub use Rattle.std.specs.List.{zip}
 pub use Rattle.byte_table.specs.Fold.{moved, read_below, size_of, fault_in, write, write_below, Field, fault_below, read}
 pub use Rattle.byte_table.proofs.CodeLaws.{number-written, byte-written, signed_byte-written, IsWritten, flag-written, flags-written, both-written, rows-written}
 pub use Rattle.byte_table.proofs.CodeLaws.{choice-written, number_at-is, length-number, row_spelled-each, IsCode, choice-code, word-written, all-written}
 pub use Rattle.byte_table.proofs.FoldLaws.{◌⨾◌, AllHere, all_here-append, AreBytes, rewritten, option_or-none, option_or-both}
-pub use Rattle.byte_table.proofs.FoldLaws.{option_or-end, fault-next, fault-joined, next, AllKeep, length-write, read-write, fault-write}
+pub use Rattle.byte_table.proofs.FoldLaws.{option_or-end, option_or-assoc, fault_in-append, size_of-append, fault-parts, next, AllKeep, length-write, read-write, fault-write}
 pub use Rattle.byte_table.proofs.FoldLaws.{rewrite_in-keep, AllSpelled, next-write, here-joined, written-then, write_append}
 pub use Rattle.byte_table.proofs.KindLaws.{plain-here, blocks-here, blocks-none, elsewhere-here, AreBlocks, blocks-spelled, spells}
 pub use Rattle.byte_table.proofs.Loops.{faults-some, drop-blank, read_below-at, read_below-after, length-read_below, row_value-after, length-row_value}
@@ -37,8 +38,11 @@ pub use Rattle.save_state.specs.Fields.{no_message, magic, fault_at, Message, kh
 pub use Rattle.save_state.specs.Rises.{legacy_rises_valid, routed_rises_valid, rise_valid}
 pub use Rattle.save_state.specs.declared.fault.StateKind.TheVariants.{Trailing, Short, Magic, Version, Field as Invalid}
 pub use Rattle.save_state.specs.private.Fits.{ApicTimerFits, ApicsFit, ProcessorFits, CounterFits, TimerFits, LineFits, BoardFits, ReferenceFits, ApicFits}
-pub use Rattle.save_state.specs.private.Places.{lines_start, line_place, rises_place, wall_place, processors_start, processor_place, apics_start, apic_place}
-pub use Rattle.save_state.specs.private.Places.{reference_place, messages_start, message_place, end_place}
+pub use Rattle.byte_table.proofs.Cursors.{AreRead, read-none, read-one, past-past, ArePassed, passed-one, passed-some, passes-same}
+pub use Rattle.byte_table.specs.Reading.{IsPast, Passes}
+pub use Rattle.save_state.specs.private.Rows.{flag_field, spelled, rows_size}
+pub use Rattle.save_state.specs.private.Front.{front_of}
+pub use Rattle.save_state.proofs.Formats.{sizes, takes, timers-take, lines-take, rises-take, processors-take, apics-take, references-take, messages-take}
 pub use Rattle.{std.proofs.Common.◌⊎◌, std.proofs.Common.rules, std.proofs.lemmas.Int.of_z-to_z, std.proofs.lemmas.Result.on_ok_weaker, std.specs.Int.w8}
 pub use Rattle.{std.specs.Int.cast_signed, std.specs.Int.cast_unsigned, clk_units.specs.Ranges.IsKhz, clk_units.specs.declared.ranges.TheConstants.RANGE_NS}
 pub use Rattle.{host_counter.specs.declared.Anchor.Anchor, pit_counter.specs.declared.parts.CounterParts.CounterParts, pit_readback.specs.Parts.IsPit}
@@ -62,6 +66,5 @@ unfoldable pub use Rattle.save_state.specs.Fields.{processors, reference, refere
 unfoldable pub use Rattle.{host_counter.specs.Time.time_at, lapic_timer.specs.Parts.divisor, pvclock_page.specs.Scale.shift_for}
 unfoldable pub use Rattle.{board_devices.specs.Lines.levels, byte_table.specs.Kinds.plain, byte_table.specs.Kinds.blocks, byte_table.specs.Kinds.elsewhere}
 unfoldable pub use Rattle.{byte_table.specs.Codes.rows, save_state.specs.Reading.board_in, save_state.specs.Table.fault_of, save_state.specs.Writing.bytes_of}
-unfoldable pub use Rattle.byte_table.specs.Codes.{number_bytes, number_at, row_bytes}
-unfoldable pub use Rattle.save_state.{specs.private.Parts.devices_fault, specs.private.Parts.rest_fault, specs.private.Rows.row_fault}
-unfoldable pub use Rattle.save_state.{specs.private.Rows.processor_rows, proofs.Formats.lists, proofs.Formats.layout, proofs.Formats.block_lists}
+unfoldable pub use Rattle.byte_table.specs.Codes.{number_bytes, number_at, row_bytes, row_value}
+unfoldable pub use Rattle.save_state.{specs.private.Rows.front_rows, specs.private.Rows.row_fault, specs.private.Rows.processor_rows, proofs.Formats.lists, proofs.Formats.layout, proofs.Formats.block_lists}

@@ -7,13 +7,13 @@ use Rattle.save_state.proofs.Names.{elsewhere, ◌⨾◌, AreBytes, next, AllKee
 use Rattle.save_state.proofs.Names.{IsBoard, devices_in, byte_at, number_bytes, zip, size_of, write, write_below, read, arith, le-ltb, append-nil}
 use Rattle.save_state.proofs.Names.{take_all, Policy, TickParts, policy_byte, policy_of, BoardParts, timers_of, ◌≡◌, ℕ, ◌+◌, ◌^◌, ◌<◌, ◌≤◌, Bool, cond, List}
 use Rattle.save_state.proofs.Names.{[], ◌∷◌, ◌++◌, length, map, drop, Some, None, refl, ap, sym, ◌∙◌, layout, timers_least, processors_few, references_few}
-use Rattle.save_state.proofs.Names.{lines_start, apics_start, reference_place, messages_start, line-size, processor, Message, read_below-after, row_value-after}
+use Rattle.save_state.proofs.Names.{line-size, processor, Message, read_below-after, row_value-after}
 use Rattle.save_state.proofs.Names.{length-read_below, length-row_value, timer, counts_of, no_hv, no_processor, processor_at, number, byte, number-below}
 use Rattle.save_state.proofs.Names.{cond-true, no_timer, timer_at, message_bit_at, message_word_at, has_messages, HV_FORMAT, ◌-◌, false, get_or, subst, le-leb}
-use Rattle.save_state.proofs.Names.{timers_few, apics_few, messages_few, references-none, rises_place, wall_place, processors_start, processor-size}
+use Rattle.save_state.proofs.Names.{timers_few, apics_few, messages_few, references-none, processor-size}
 use Rattle.save_state.proofs.Blocks.{messages_read, reference-kept, read-none, reference-version, IsPage, page-read}
 use Rattle.std.proofs.Math.ListN.{get_or-map}
-use Rattle.save_state.proofs.{ApicLaws.apics_read, ApicLaws.AreRead, ApicLaws.apics-read, Here.fields-spelled, Here.fields-here}
+use Rattle.save_state.proofs.{ApicLaws.AreRead, ApicLaws.apics-read, Here.fields-spelled, Here.fields-here}
 
 -- all fields of a valid board, put into the blank one, give the board
 board-covers : (b : BoardParts) → IsBoard b → BoardFits b → moved (fields_of b.format b.cpus) b blank ≡ b
@@ -82,7 +82,7 @@ unfolding layout line elsewhere
 line-policy bytes k less =
     let at : 0 + k ≡ k = omega arith in
     ap (λ (l : TickParts). l.policy)
-    (read_below-at line no_line 33 line-size 0 (timers_of (format_in bytes) + 2) (lines_start (format_in bytes)) bytes _ k less)
+    (read_below-at line no_line 33 line-size 0 (timers_of (format_in bytes) + 2) _ bytes _ k less)
     ∙ ap (λ (m : ℕ). policy_of (byte_at (policy_place m) bytes)) at
 
 -- blocks of pairs are written as they were read
@@ -104,8 +104,8 @@ board-keeps bytes =
     refl ⨾ refl ⨾ refl ⨾ refl ⨾ refl ⨾ refl ⨾ refl ⨾ refl ⨾ refl ⨾ refl ⨾ refl
     ⨾ policy_is 0 (omega (arith, least)) ⨾ policy_is 1 (omega (arith, least)) ⨾ policy_is 2 (omega (arith, least))
     ⨾ refl ⨾ refl ⨾ refl ⨾ refl ⨾ refl ⨾ refl ⨾ refl ⨾ refl ⨾ refl ⨾ refl ⨾ refl ⨾ refl ⨾ refl ⨾ refl ⨾ refl ⨾ refl ⨾ refl
-    ⨾ pairs-kept apic no_apic n (apics_read n (apics_start f c) bytes) ⨾ reference-kept (references_of f) (reference_place f c) bytes (references_few f)
-    ⨾ pairs-kept message no_message (messages_of f) (messages_read (messages_of f) (messages_start f c) bytes) ⨾ tt
+    ⨾ pairs-kept apic no_apic n _ ⨾ reference-kept (references_of f) _ bytes (references_few f)
+    ⨾ pairs-kept message no_message (messages_of f) _ ⨾ tt
 
 not_trailing : (wanted : ℕ) (bytes : List ℕ) → trailing wanted bytes ≡ None → length bytes ≤ wanted
 not_trailing wanted bytes none = grind arith
@@ -167,21 +167,21 @@ board-read bytes small few_cpus =
     let least = timers_least (format_in bytes) in
     record {
       three = refl;
-      bytes = length-row_value byte 0 128 128 123 bytes (omega arith);
+      bytes = length-row_value byte 0 128 128 _ bytes (omega arith);
       timers = refl;
       messages = refl;
-      no_messages = λ k le. none-read (messages_of f) (messages_start f c) bytes (messages_few f) k le;
-      no_timers = λ k le. read_below-after timer no_timer 0 (timers_of f) 264 bytes _ k le;
-      ten = length-read_below line no_line 0 (timers_of f + 2) 10 (lines_start f) bytes (omega (arith, few));
-      no_lines = λ k le. read_below-after line no_line 0 (timers_of f + 2) (lines_start f) bytes _ k le;
+      no_messages = λ k le. none-read (messages_of f) _ bytes (messages_few f) k le;
+      no_timers = λ k le. read_below-after timer no_timer 0 (timers_of f) _ bytes _ k le;
+      ten = length-read_below line no_line 0 (timers_of f + 2) 10 _ bytes (omega (arith, few));
+      no_lines = λ k le. read_below-after line no_line 0 (timers_of f + 2) _ bytes _ k le;
       policies = λ k more less.
           line-policy bytes k less ∙ hpet-policy bytes k more ∙ sym (line-policy bytes 2 (omega (arith, least)));
-      no_rises = λ k le. row_value-after (number 8) 0 (counts_of f) (rises_place f) bytes _ k le;
-      wall_version = number-below bytes small (wall_place f + 8);
-      no_processors = λ k le. read_below-after processor no_processor 0 c (processors_start f) bytes _ k le;
-      apics = apics-read n (apics_start f c) bytes (board_in bytes) (apics_few f c few_cpus) refl refl;
-      no_reference = λ before. read-none (references_of f) (reference_place f c) bytes (references-none f before);
-      reference_version = reference-version (references_of f) (reference_place f c) bytes small;
+      no_rises = λ k le. row_value-after (number 8) 0 (counts_of f) _ bytes _ k le;
+      wall_version = number-below bytes small _;
+      no_processors = λ k le. read_below-after processor no_processor 0 c _ bytes _ k le;
+      apics = apics-read n _ bytes (board_in bytes) (apics_few f c few_cpus) refl refl;
+      no_reference = λ before. read-none (references_of f) _ bytes (references-none f before);
+      reference_version = reference-version (references_of f) _ bytes small;
       pages = λ k less.
-          subst IsPage (sym (read_below-at processor no_processor 50 processor-size 0 c (processors_start f) bytes _ k less)) (page-read (0 + k) _ bytes small);
+          subst IsPage (sym (read_below-at processor no_processor 50 processor-size 0 c _ bytes _ k less)) (page-read (0 + k) _ bytes small);
     }

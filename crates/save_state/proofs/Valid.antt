@@ -7,18 +7,17 @@ use Rattle.save_state.proofs.Names.{AreDevices, one_if, devices_in, now_of, no_p
 use Rattle.save_state.proofs.Names.{apics_of, no_hv, IsWall, IsProcessor, timers_of, has_messages, levels, counts_rtc, no_line, line_at, IsTimerLine, timer_at}
 use Rattle.save_state.proofs.Names.{Policy, TickParts, IsTickLine, BoardParts, HvParts, ProcessorParts, HV_FORMAT, IsTimer, IsHpet, IsPlace, no_timer}
 use Rattle.save_state.proofs.Names.{register_d, pf_of, af_of, uf_of, flags_byte, divider_of, IsRtc, bytes_valid, divider_valid, cycle_valid, TimerParts}
-use Rattle.save_state.proofs.Names.{cond-true, CounterParts, IsCounter, IsPit, IsDivider, RtcParts, register_a, register_c, inl, inr, refl, sym, subst, ◌∙◌}
+use Rattle.save_state.proofs.Names.{cond-true, CounterParts, IsCounter, IsPit, IsDivider, RtcParts, register_a, register_c, inl, inr, refl, ap, sym, subst, ◌∙◌}
 use Rattle.save_state.proofs.Names.{arith, and_parts, or_cases, leb-true, ltb-true, ltb-false, lt-ltb, le-ltb, cases_lt, ◌≡◌, ℕ, suc, ◌+◌, ◌<◌, ◌≤◌, Bool, true}
-use Rattle.save_state.proofs.Names.{false, ◌&&◌, ◌||◌, leb, ltb, [], ◌∷◌, length, get_or, ◌⊎◌, IsHead, lists, timers_least, references-one, all-six, levels-at}
-use Rattle.save_state.proofs.Names.{end_place, devices_fault, rest_fault, line_place, rises_place, wall_place, processor_place, apic_place, reference_place}
-use Rattle.save_state.proofs.Names.{message_place, fields_of, format_in, cpus_in, board_in, trailing, fault_of, option_or-both, option_or-end}
-use Rattle.save_state.proofs.Names.{fault-next, fault-joined, StateFault, Fields, size_of, option_or, fault_in, AreBytes, option_or-none, ◌++◌}
-use Rattle.save_state.proofs.Names.{blocks-none, flag_valid, khz_valid, host_valid, IsKhz, processors_of, MOST_ACCESSES, SLEW_MAX_NS}
+use Rattle.save_state.proofs.Names.{false, ◌&&◌, ◌||◌, leb, ltb, [], length, get_or, ◌⊎◌, IsHead, timers_least, references-one, all-six, levels-at}
+use Rattle.save_state.proofs.Names.{fields_of, format_in, cpus_in, board_in, front_rows, trailing, fault_of, option_or-both}
+use Rattle.save_state.proofs.Names.{fault-parts, StateFault, Fields, size_of, option_or, fault_in, AreBytes, option_or-none, ◌++◌}
+use Rattle.save_state.proofs.Names.{blocks-none, khz_valid, host_valid, IsKhz, processors_of, MOST_ACCESSES, SLEW_MAX_NS}
 use Rattle.board_core.specs.Time.{HasTime}
-use Rattle.save_state.proofs.BlockRows.{rows-valid, head-rows, counter-rows, clock-rows, timer-rows, registers-rows, line-rows, wall-rows, rises-rows, message-rows}
+use Rattle.save_state.proofs.BlockRows.{ended, option_or-some, rows-valid, front-rows, counter-rows, clock-rows, timer-rows, registers-rows, line-rows, wall-rows, rises-rows, message-rows}
 use Rattle.save_state.proofs.Blocks.{TicksHold, ticks-hold, processor-valid, reference-valid}
 use Rattle.save_state.proofs.{ApicLaws.apics-valid, RoundTrip.IsRead, RoundTrip.board-read}
-use Rattle.save_state.proofs.{RoundTrip.bytes_of-board_in, Names.List, Names.Option, Names.None, Names.Some, Names.layout}
+use Rattle.save_state.proofs.{RoundTrip.bytes_of-board_in, Names.List, Names.Option, Names.None, Names.layout}
 
 -- the fields before the 8254
 both-bounds : (low n high : ℕ) → (leb low n && leb n high) ≡ true → (low ≤ n) × (n ≤ high)
@@ -33,9 +32,11 @@ host-is b e = grind arith
 processors-few : (format : ℕ) → processors_of format ≤ 64
 processors-few format = grind arith
 
-pub head-valid : (b : BoardParts) (bytes : List ℕ) → fault_in front b b 0 bytes ≡ None → IsHead b
-head-valid b bytes none =
-    let h = rows-valid bytes 0 _ (sym (head-rows b bytes) ∙ none) in
+pub head-valid : (bytes : List ℕ) → fault_in front (board_in bytes) (board_in bytes) 0 bytes ≡ None → IsHead (board_in bytes)
+unfolding front_rows
+head-valid bytes none =
+    let b : BoardParts = board_in bytes in
+    let h = rows-valid bytes 0 _ (sym (front-rows bytes) ∙ none) in
     let format = both-bounds 1 b.format LAST_FORMAT h.1.0 in
     let cpus = both-bounds 1 b.cpus (processors_of b.format) h.1.1.0 in
     let slew = both-bounds 1 b.slew_ns SLEW_MAX_NS h.1.1.1.1.1.1.1.1.1.1.0 in
@@ -62,16 +63,16 @@ high : (gate : Bool) → (gate || false) ≡ true → gate ≡ true
 high true e = refl
 high false e = e
 
-each_counter : (b : BoardParts) (bytes : List ℕ) → fault_in counters b b 79 bytes ≡ None → (k : ℕ) → k < 3
+each_counter : (b : BoardParts) (place : ℕ) (bytes : List ℕ) → fault_in counters b b place bytes ≡ None → (k : ℕ) → k < 3
     → IsCounter (get_or b.pit.counters k no_counter) × (((get_or b.pit.counters k no_counter).gate || leb 2 k) ≡ true)
 unfolding counters
-each_counter b bytes none k less =
-    let one = blocks-none 3 3 counter no_counter _ _ b b 79 bytes none k less in
+each_counter b place bytes none k less =
+    let one = blocks-none 3 3 counter no_counter _ _ b b place bytes none k less in
     counter-valid b k (get_or b.pit.counters k no_counter) one.0 bytes one.1
 
-pit-valid : (b : BoardParts) → length b.pit.counters ≡ 3 → (bytes : List ℕ) → fault_in counters b b 79 bytes ≡ None → IsPit b.pit
-pit-valid b three bytes none =
-    let each = each_counter b bytes none in
+pit-valid : (b : BoardParts) → length b.pit.counters ≡ 3 → (place : ℕ) (bytes : List ℕ) → fault_in counters b b place bytes ≡ None → IsPit b.pit
+pit-valid b three place bytes none =
+    let each = each_counter b place bytes none in
     record {
       three = three;
       first = (each 0 (omega arith)).0;
@@ -89,10 +90,10 @@ bytes-valid : (r : RtcParts) → bytes_valid r ≡ true
     → (register_a r ≤ 0x7f) × (register_c r ≡ flags_byte (pf_of r) (af_of r) (uf_of r)) × (register_d r ≡ 0x80)
 bytes-valid r e = (grind arith, grind arith, grind arith)
 
-clock-valid : (b : BoardParts) → length b.rtc.bytes ≡ 128 → (bytes : List ℕ) → fault_in clock b b 121 bytes ≡ None → IsRtc b.rtc
-clock-valid b long xs none =
+clock-valid : (b : BoardParts) → length b.rtc.bytes ≡ 128 → (place : ℕ) (bytes : List ℕ) → fault_in clock b b place bytes ≡ None → IsRtc b.rtc
+clock-valid b long place xs none =
     let r : RtcParts = b.rtc in
-    let h = rows-valid xs 121 _ (sym (clock-rows b xs) ∙ none) in
+    let h = rows-valid xs place _ (sym (clock-rows b place xs) ∙ none) in
     let bytes = bytes-valid r h.1.1.0 in
     record {
       places = long;
@@ -100,7 +101,7 @@ clock-valid b long xs none =
       register_a = bytes.0;
       register_c = bytes.1;
       register_d = bytes.2;
-      divider = divider-valid r h.1.1.1.0 (and_parts (flag_valid 253 xs) (cycle_valid r) h.1.1.1.1.0).1;
+      divider = divider-valid r h.1.1.1.0 h.1.1.1.1.0;
     }
 
 -- the HPET
@@ -127,12 +128,12 @@ place-valid k n t there absent = elim (cases_lt k n) [
   | inr more ↦ subst (λ (b : Bool). IsPlace b t) (sym (le-ltb k n more)) (absent more)
 ]
 
-hpet-valid : (b : BoardParts) → IsRead b → (bytes : List ℕ) → fault_in registers b b 254 bytes ≡ None
-    → fault_in (timers (timers_of b.format)) b b 264 bytes ≡ None → IsHpet b.hpet
+hpet-valid : (b : BoardParts) → IsRead b → (p q : ℕ) (bytes : List ℕ) → fault_in registers b b p bytes ≡ None
+    → fault_in (timers (timers_of b.format)) b b q bytes ≡ None → IsHpet b.hpet
 unfolding timers
-hpet-valid b is bytes none none' =
+hpet-valid b is p q bytes none none' =
     let n : ℕ = timers_of b.format in
-    let h = rows-valid bytes 254 _ (sym (registers-rows b bytes) ∙ none) in
+    let h = rows-valid bytes p _ (sym (registers-rows b p bytes) ∙ none) in
     record {
       config = leb-true b.hpet.config 3 h.0;
       timers = subst (λ (m : ℕ). (m ≡ 3) ⊎ (m ≡ 8)) (sym is.timers) (timers-few b.format);
@@ -140,7 +141,7 @@ hpet-valid b is bytes none none' =
       places = λ k small.
           subst (λ (m : ℕ). IsPlace (ltb k m) (timer_at k b.hpet)) (sym is.timers) (place-valid k n (timer_at k b.hpet)
           (λ (less : k < n).
-          let one = blocks-none n 8 timer no_timer _ _ b b 264 bytes none' k less in
+          let one = blocks-none n 8 timer no_timer _ _ b b q bytes none' k less in
           timer-valid b k (timer_at k b.hpet) one.0 bytes one.1)
           (is.no_timers k));
       messages = λ e. is.timers ∙ eight-timers b.format (sym is.messages ∙ e);
@@ -155,7 +156,7 @@ record LineHolds (b : BoardParts) (k : ℕ) (l : TickParts) : Type 0 where
 line-valid : (b : BoardParts) (k : ℕ) (l : TickParts) (place : ℕ) (bytes : List ℕ) → fault_in (line k) b l place bytes ≡ None → LineHolds b k l
 line-valid b k l place bytes none =
     let h = rows-valid bytes place _ (sym (line-rows k b l place bytes) ∙ none) in
-    record { up = (and_parts (flag_valid place bytes) (up_allowed b k l.up) h.0).1; ticks = ticks-hold b l h.1.0 h.1.1.1.0 h.1.1.1.1.0 }
+    record { up = h.0; ticks = ticks-hold b l h.1.0 h.1.1.1.0 h.1.1.1.1.0 }
 
 none-valid : IsTickLine no_line
 none-valid = record { sum = refl; policy = refl }
@@ -200,31 +201,43 @@ timer_lines-valid b is k =
     (λ (e : ltb k b.hpet.timers ≡ false). is.no_lines (suc (suc k)) (omega (arith, ltb-false k b.hpet.timers e, is.timers)))
 
 -- the devices
-module _ (b : BoardParts) (is : IsRead b) (head : IsHead b) (bytes : List ℕ) (none : devices_fault b bytes ≡ None) where
-  each : (fault_in counters b b 79 bytes ≡ None) × (fault_in clock b b 121 bytes ≡ None) × (fault_in registers b b 254 bytes ≡ None)
-      × (fault_in (timers (timers_of b.format)) b b 264 bytes ≡ None)
-      × (fault_in (lines (timers_of b.format)) b b (line_place b.format 0) bytes ≡ None)
-  unfolding devices_fault
-  each =
-      let pit = option_or-both (fault_in counters b b 79 bytes) _ none in
-      let rtc = option_or-both (fault_in clock b b 121 bytes) _ pit.1 in
-      let hpet = option_or-both (fault_in registers b b 254 bytes) _ rtc.1 in
-      let last = option_or-both (fault_in (timers (timers_of b.format)) b b 264 bytes) _ hpet.1 in (pit.0, rtc.0, hpet.0, last.0, last.1)
+module _ (b : BoardParts) (is : IsRead b) (head : IsHead b) (place : ℕ) (bytes : List ℕ) (none : fault_in (devices b.format) b b place bytes ≡ None) where
+  abbrev clock_at : ℕ
+  clock_at = place + size_of counters
 
-  pub lines-none : fault_in (lines (timers_of b.format)) b b (line_place b.format 0) bytes ≡ None
-  lines-none = each.4
+  abbrev registers_at : ℕ
+  registers_at = clock_at + size_of clock
+
+  abbrev timers_at : ℕ
+  timers_at = registers_at + size_of registers
+
+  abbrev lines_at : ℕ
+  lines_at = timers_at + size_of (timers (timers_of b.format))
+
+  each : (fault_in counters b b place bytes ≡ None) × (fault_in clock b b clock_at bytes ≡ None) × (fault_in registers b b registers_at bytes ≡ None)
+      × (fault_in (timers (timers_of b.format)) b b timers_at bytes ≡ None)
+      × (fault_in (lines (timers_of b.format)) b b lines_at bytes ≡ None)
+  each =
+      let n : ℕ = timers_of b.format in
+      let pit = fault-parts counters (clock ++ (registers ++ (timers n ++ lines n))) b b place bytes none in
+      let rtc = fault-parts clock (registers ++ (timers n ++ lines n)) b b clock_at bytes pit.1 in
+      let hpet = fault-parts registers (timers n ++ lines n) b b registers_at bytes rtc.1 in
+      let last = fault-parts (timers n) (lines n) b b timers_at bytes hpet.1 in (pit.0, rtc.0, hpet.0, last.0, last.1)
+
+  pub lines-due-there : (k : ℕ) → (line_at k (devices_in b)).counts.due ≤ now_of b + b.accesses
+  lines-due-there k = lines-due b is lines_at bytes each.4 k
 
   pub devices-valid : AreDevices (devices_in b)
   devices-valid = record {
-    pit = pit-valid b is.three bytes each.0;
-    rtc = clock-valid b is.bytes bytes each.1;
-    hpet = hpet-valid b is bytes each.2 each.3;
-    lines = λ k small. lines-valid b is (line_place b.format 0) bytes lines-none k;
+    pit = pit-valid b is.three place bytes each.0;
+    rtc = clock-valid b is.bytes clock_at bytes each.1;
+    hpet = hpet-valid b is registers_at timers_at bytes each.2 each.3;
+    lines = λ k small. lines-valid b is lines_at bytes each.4 k;
     joined = record {
       places = is.ten;
       slew_low = head.least_slew;
       slew_high = head.most_slew;
-      flag = clock_line-valid b is (line_place b.format 0) bytes lines-none;
+      flag = clock_line-valid b is lines_at bytes each.4;
       timer_lines = λ k small. timer_lines-valid b is k;
     };
   }
@@ -274,7 +287,7 @@ routed-valid b p q bytes none none' =
             let eight : messages_of b.format ≡ 8 = cond-true {A = ℕ} (has_messages b.format) 8 0 there in
             let one = blocks-none (messages_of b.format) 8 message no_message _ _ b b q bytes none' 7 (omega (arith, eight)) in
             let last = rows-valid bytes one.0 _ (sym (message-rows 7 b (get_or (message_pairs b) 7 no_message) one.0 bytes) ∙ one.1) in
-            (and_parts (flag_valid one.0 bytes) (routed_rises_valid b) last.0).1
+            last.0
         | inr is ↦ is
       ],
     )
@@ -292,97 +305,57 @@ rises-valid b is ok = record {
     none f le k = grind arith
 
 -- the board
-pub board-valid : (b : BoardParts) → IsRead b → IsHead b → (bytes : List ℕ) → devices_fault b bytes ≡ None → rest_fault b bytes ≡ None → IsBoard b
-unfolding rest_fault
-board-valid b is head bytes none none' =
+pub board-valid : (b : BoardParts) → IsRead b → IsHead b → (p q : ℕ) (xs bytes : List ℕ) → fault_in (devices b.format) b b p xs ≡ None
+    → fault_in (back b.format b.cpus) b b q bytes ≡ None → IsBoard b
+board-valid b is head p q xs bytes none none' =
     let f : ℕ = b.format in
-    let c : ℕ = b.cpus in
-    let counts = option_or-both (fault_in (rises (counts_of f)) b b (rises_place f) bytes) _ none' in
-    let clock = option_or-both (fault_in wall b b (wall_place f) bytes) _ counts.1 in
-    let cpus = option_or-both (fault_in (processors c) b b (processor_place f 0) bytes) _ clock.1 in
-    let timers = option_or-both (fault_in (apics (apics_of f c)) b b (apic_place f c 0) bytes) _ cpus.1 in
-    let page = option_or-both (fault_in (references (references_of f)) b b (reference_place f c) bytes) _ timers.1 in
-    let last = option_or-both (fault_in (messages (messages_of f)) b b (message_place f c 0) bytes) _ page.1 in
+    let last : Fields BoardParts = references (references_of f) ++ messages (messages_of f) in
+    let counts = fault-parts (rises (counts_of f)) (wall ++ (processors b.cpus ++ (apics (apics_of f b.cpus) ++ last))) b b q bytes none' in
+    let clock = fault-parts wall (processors b.cpus ++ (apics (apics_of f b.cpus) ++ last)) b b _ bytes counts.1 in
+    let cpus = fault-parts (processors b.cpus) (apics (apics_of f b.cpus) ++ last) b b _ bytes clock.1 in
+    let timers = fault-parts (apics (apics_of f b.cpus)) last b b _ bytes cpus.1 in
+    let page = fault-parts (references (references_of f)) (messages (messages_of f)) b b _ bytes timers.1 in
     record {
-      devices = devices-valid b is head bytes none;
+      devices = devices-valid b is head p xs none;
       joined = record {
         format = record { least = head.least; last = head.built; least_cpus = head.least_cpus; most_cpus = head.most_cpus; has_timers = is.timers };
         rates = record { host = head.host; guest = head.guest };
         time = head.time;
         accesses = head.accesses;
-        due = λ (k : ℕ) (less : k < 10). lines-due b is (line_place b.format 0) bytes (lines-none b is head bytes none) k;
+        due = λ (k : ℕ) (less : k < 10). lines-due-there b is head p xs none k;
         wall = wall-valid b is _ bytes clock.0;
         processors = processors-valid b is _ bytes cpus.0;
-        rises = rises-valid b is (routed-valid b _ _ bytes counts.0 last.0);
+        rises = rises-valid b is (routed-valid b _ _ bytes counts.0 page.1);
         messages = is.messages;
         apics = apics-valid b is.apics _ bytes timers.0;
         hv = hv-valid b is head.least_cpus _ bytes page.0;
       };
     }
 
--- how many bytes the lists take
-sizes : (size_of front ≡ 79) × (size_of counters ≡ 42) × (size_of clock ≡ 133) × (size_of registers ≡ 10) × (size_of wall ≡ 20)
-unfolding layout
-sizes = (refl, refl, refl, refl, refl)
-
-devices-end : (f : ℕ) → 0 + size_of (front ++ devices f) ≡ rises_place f
-unfolding layout
-devices-end f = omega arith
-
-fields-end : (f c : ℕ) → size_of (fields_of f c) ≡ end_place f c
-unfolding layout
-fields-end f c = omega arith
-
--- the devices, and the rest, part by part
-pub devices-are : (b : BoardParts) (bytes : List ℕ) → fault_in (devices b.format) b b 79 bytes ≡ devices_fault b bytes
-unfolding devices_fault layout
-devices-are b bytes =
-    let n : ℕ = timers_of b.format in
-    let lines_at : 264 + size_of (timers n) ≡ line_place b.format 0 = omega arith in
-    sym (option_or-end (fault_in (devices b.format) b b 79 bytes)) ∙ fault-joined (counters ∷ clock ∷ registers ∷ timers n ∷ lines n ∷ []) b b 79 bytes None
-    ∙ (λ i. option_or (fault_in counters b b 79 bytes) (option_or (fault_in clock b b 121 bytes) (option_or (fault_in registers b b 254 bytes)
-    (option_or (fault_in (timers n) b b 264 bytes) (option_or-end (fault_in (lines n) b b (lines_at i) bytes) i)))))
-
-places : (f c : ℕ) → let p : ℕ = rises_place f in (p + size_of (rises (counts_of f)) ≡ wall_place f)
-    × (p + size_of (rises (counts_of f)) + size_of wall ≡ processor_place f 0)
-    × (p + size_of (rises (counts_of f)) + size_of wall + size_of (processors c) ≡ apic_place f c 0)
-    × (p + size_of (rises (counts_of f)) + size_of wall + size_of (processors c) + size_of (apics (apics_of f c)) ≡ reference_place f c)
-    × (p + size_of (rises (counts_of f)) + size_of wall + size_of (processors c) + size_of (apics (apics_of f c)) + size_of (references (references_of f))
-    ≡ message_place f c 0)
-unfolding layout
-places f c = (omega arith, omega arith, omega arith, omega arith, omega arith)
-
-pub rest-is : (b : BoardParts) (bytes : List ℕ)
-    → option_or (fault_in (back b.format b.cpus) b b (rises_place b.format) bytes) (trailing (end_place b.format b.cpus) bytes) ≡ rest_fault b bytes
-unfolding rest_fault lists
-rest-is b bytes =
-    let f : ℕ = b.format in
-    let c : ℕ = b.cpus in
-    let n : ℕ = apics_of f c in
-    let p : ℕ = rises_place f in
-    let counts : Fields BoardParts = rises (counts_of f) in
-    let pages : Fields BoardParts = references (references_of f) in
-    let last : Option StateFault = trailing (end_place f c) bytes in
-    let at = places f c in
-    fault-joined (counts ∷ wall ∷ processors c ∷ apics n ∷ pages ∷ messages (messages_of f) ∷ []) b b p bytes last
-    ∙ (λ i. option_or (fault_in counts b b p bytes) (option_or (fault_in wall b b (at.0 i) bytes) (option_or (fault_in (processors c) b b (at.1 i) bytes)
-    (option_or (fault_in (apics n) b b (at.2 i) bytes)
-    (option_or (fault_in pages b b (at.3 i) bytes) (option_or (fault_in (messages (messages_of f)) b b (at.4 i) bytes) last))))))
-
 -- the format and the number of processors of the board
 pub board-format : (bytes : List ℕ) → ((board_in bytes).format ≡ format_in bytes) × ((board_in bytes).cpus ≡ cpus_in bytes)
 unfolding layout
 board-format bytes = (refl, refl)
 
-pub three-parts : (bytes : List ℕ) → let b : BoardParts = board_in bytes in fault_of bytes
-    ≡ option_or (fault_in front b b 0 bytes) (option_or (devices_fault b bytes) (rest_fault b bytes))
-unfolding fault_of layout
+pub three-parts : (bytes : List ℕ) → let b : BoardParts = board_in bytes in let p : ℕ = 0 + size_of front in let q : ℕ = p + size_of (devices b.format) in
+    fault_of bytes ≡ option_or (fault_in front b b 0 bytes) (option_or (fault_in (devices b.format) b b p bytes)
+    (option_or (fault_in (back b.format b.cpus) b b q bytes) (trailing (q + size_of (back b.format b.cpus)) bytes)))
+unfolding fault_of
 three-parts bytes =
     let b : BoardParts = board_in bytes in
-    (λ i. option_or (fault_in (fields_of b.format b.cpus) b b 0 bytes) (trailing (fields-end b.format b.cpus i) bytes))
-    ∙ fault-next (front ++ devices b.format) (back b.format b.cpus) b b 0 _ bytes _ (devices-end b.format)
-    ∙ fault-next front (devices b.format) b b 0 79 bytes _ (omega (arith, sizes.0))
-    ∙ (λ i. option_or (fault_in front b b 0 bytes) (option_or (devices-are b bytes i) (rest-is b bytes i)))
+    let is = board-format bytes in
+    let all : Fields BoardParts = fields_of b.format b.cpus in
+    let size : size_of all ≡ 0 + size_of all = omega arith in
+    (λ i. option_or (fault_in (fields_of (sym is.0 i) (sym is.1 i)) b b 0 bytes) (trailing (size_of (fields_of (sym is.0 i) (sym is.1 i))) bytes))
+    ∙ (λ i. option_or (fault_in all b b 0 bytes) (trailing (size i) bytes))
+    ∙ ended front (devices b.format ++ back b.format b.cpus) b 0 bytes
+    ∙ ap (λ (o : Option StateFault). option_or (fault_in front b b 0 bytes) o) (rest b (0 + size_of front) bytes)
+  where
+    rest : (b : BoardParts) (p : ℕ) (bytes : List ℕ) → let gs : Fields BoardParts = devices b.format ++ back b.format b.cpus in
+        option_or (fault_in gs b b p bytes) (trailing (p + size_of gs) bytes) ≡ option_or (fault_in (devices b.format) b b p bytes)
+        (option_or (fault_in (back b.format b.cpus) b b (p + size_of (devices b.format)) bytes)
+        (trailing (p + size_of (devices b.format) + size_of (back b.format b.cpus)) bytes))
+    rest b p bytes = ended (devices b.format) (back b.format b.cpus) b p bytes
 
 -- a board that was read, with no fault before the 8254
 pub record IsRight (bytes : List ℕ) (b : BoardParts) : Type 0 where
@@ -392,7 +365,7 @@ pub record IsRight (bytes : List ℕ) (b : BoardParts) : Type 0 where
 
 pub right-head : (bytes : List ℕ) (b : BoardParts) → IsRight bytes b → IsHead b
 right-head bytes b is =
-    subst IsHead (sym is.read) (head-valid (board_in bytes) bytes is.none)
+    subst IsHead (sym is.read) (head-valid bytes is.none)
 
 -- the format and the number of processors of bytes whose first fields have no fault
 pub format-few : (bytes : List ℕ) → AreBytes bytes → None ≡ fault_in front (board_in bytes) (board_in bytes) 0 bytes → format_in bytes ≤ LAST_FORMAT
@@ -403,15 +376,15 @@ pub cpus-few : (bytes : List ℕ) → AreBytes bytes → None ≡ fault_in front
 cpus-few bytes small none =
     let head = right-head bytes (board_in bytes) (record { small = small; none = sym none; read = refl }) in omega (arith, head.few, (board-format bytes).1)
 
-pub option_or-some : (fault : StateFault) (later : Option StateFault) → option_or (Some fault) later ≡ Some fault
-option_or-some fault later = refl
-
 pub ruleset decoded = (format-few, cpus-few, three-parts, option_or-some, option_or-none, bytes_of-board_in)
 
-pub right-devices : (bytes : List ℕ) (b : BoardParts) → IsRight bytes b → devices_fault b bytes ≡ None → AreDevices (devices_in b)
-right-devices bytes b is none =
-    devices-valid b (subst IsRead (sym is.read) (board-read bytes is.small (cpus-few bytes is.small (sym is.none)))) (right-head bytes b is) bytes none
+pub right-devices : (bytes : List ℕ) (b : BoardParts) (p : ℕ) (xs : List ℕ) → IsRight bytes b → fault_in (devices b.format) b b p xs ≡ None
+    → AreDevices (devices_in b)
+right-devices bytes b p xs is none =
+    devices-valid b (subst IsRead (sym is.read) (board-read bytes is.small (cpus-few bytes is.small (sym is.none)))) (right-head bytes b is) p xs none
 
-pub right-board : (bytes : List ℕ) (b : BoardParts) → IsRight bytes b → devices_fault b bytes ≡ None → rest_fault b bytes ≡ None → IsBoard b
-right-board bytes b is none none' =
-    board-valid b (subst IsRead (sym is.read) (board-read bytes is.small (cpus-few bytes is.small (sym is.none)))) (right-head bytes b is) bytes none none'
+pub right-board : (bytes : List ℕ) (b : BoardParts) (p q : ℕ) (xs ys : List ℕ) (last : Option StateFault) → IsRight bytes b
+    → fault_in (devices b.format) b b p xs ≡ None → option_or (fault_in (back b.format b.cpus) b b q ys) last ≡ None → IsBoard b
+right-board bytes b p q xs ys last is none none' =
+    board-valid b (subst IsRead (sym is.read) (board-read bytes is.small (cpus-few bytes is.small (sym is.none)))) (right-head bytes b is) p q xs ys none
+    (option_or-both _ _ none').0

@@ -412,15 +412,14 @@ front = head ++ host ++ guest ++ policies
 -- the devices with their tick lines
 abbrev pub devices : ℕ → Fields BoardParts
 devices format =
-    counters ++ clock ++ registers ++ timers (timers_of format) ++ lines (timers_of format)
+    counters ++ (clock ++ (registers ++ (timers (timers_of format) ++ lines (timers_of format))))
 
 -- what follows the tick lines
 abbrev pub back : ℕ → ℕ → Fields BoardParts
 back format cpus =
-    rises (counts_of format) ++ wall ++ processors cpus ++ apics (apics_of format cpus)
-    ++ references (references_of format)
-    ++ messages (messages_of format)
+    rises (counts_of format) ++ (wall ++ (processors cpus ++ (apics (apics_of format cpus)
+    ++ (references (references_of format) ++ messages (messages_of format)))))
 
 -- the fields of a board of a format
 abbrev pub fields_of : ℕ → ℕ → Fields BoardParts
-fields_of format cpus = front ++ devices format ++ back format cpus
+fields_of format cpus = front ++ (devices format ++ back format cpus)

@@ -1,5 +1,6 @@
 pub mod Rows
-pub mod Places
+pub mod Cursor
+pub mod Front
 pub mod Parts
 pub mod Fits
 pub mod Devices

@@ -1,5 +1,6 @@
 //! The timers of local APICs in a saved state: written, read, and their first fault.
-ghost use Rattle.std.specs.Prelude.{◌≡◌, ℕ, ◌+◌, ◌-◌, ◌<◌, ◌≤◌, ◌++◌, OnOk, map, replicate, slice_index_or};
+ghost use Rattle.std.specs.Prelude.{◌≡◌, ℕ, ◌+◌, ◌<◌, ◌≤◌, ◌^◌, ◌++◌, OnOk, length, slice_index_or};
+ghost use Rattle.std.specs.Result.{result_err};
 ghost use Rattle.clk_units.specs.Ranges.{IsKhz};
 ghost use Rattle.lapic_timer.specs.Parts.{
   lvt_valid,
@@ -12,26 +13,20 @@ ghost use Rattle.lapic_timer.specs.Parts.{
 ghost use Rattle.board_types.specs.declared.parts.TheConstants.{MOST_ACCESSES};
 ghost use Rattle.board_core.specs.Apics.{apics_of};
 ghost use Rattle.board_core.specs.Time.{now_of, HasTime};
-ghost use Rattle.byte_table.specs.Fold.{write, read, read_below, fault_in};
-ghost use Rattle.save_state.specs.Fields.{
-  apic_timer,
-  apic_line,
-  apic,
-  no_apic,
-  apic_pairs,
-  apics,
-};
+ghost use Rattle.byte_table.specs.Fold.{write, read, fault_in, size_of};
+ghost use Rattle.byte_table.specs.Reading.{IsPast, Passes};
+ghost use Rattle.save_state.specs.Fields.{apic_timer, apic, no_apic, apic_pairs, apics};
+ghost use Rattle.save_state.specs.private.Cursor.{read_at};
 ghost use Rattle.save_state.specs.private.Fits.{ApicTimerFits, LineFits, ApicsFit};
-ghost use Rattle.save_state.specs.private.Places.{apic_place};
 
 use crate::appending::put_line;
 use crate::fault::StateFault;
 use crate::pieces::ticks_in;
-use crate::places::{apic_place, apics_of};
-use crate::table::{fault_in, field};
+use crate::sizes::apics_of;
+use crate::table::{check_rows, field, flag_field};
 use crate::whole::NO_LINE;
 use board_core::{BoardParts, BoardState};
-use byte_table::{byte_at, eight_at, flag_valid, four_at, put, put_4, put_8};
+use byte_table::{Fields, put, put_4, put_8};
 use clk_units::NoMemory;
 use lapic_timer::ApicParts;
 use tick_policy::{Policy, TickParts, lost_valid, queue_valid};
@@ -86,87 +81,75 @@ fn put_timer(out: &mut Vec<u8>, t: &ApicParts) -> Result<(), NoMemory>
     put_8(out, t.deadline)
 }
 
-/// The timers.
-pub(crate) fn apic_timers_in(bytes: &[u8], format: u8, cpus: u8) -> [ApicParts; 64]
-    requires { cpus ≤ 64 }
-    ensures { result ≡ map (λ a. a.0)
-        (read_below apic no_apic 0 (apics_of format cpus) (apic_place format cpus 0) bytes.now
-        ++ replicate (64 - apics_of format cpus) no_apic) }
+/// The timers, and their tick lines.
+#[tactic(auto, using(crate::proofs::Formats::takes))]
+pub(crate) fn apics_in(
+    fields: &mut Fields,
+    format: u8,
+    cpus: u8,
+) -> ([ApicParts; 64], [TickParts; 64])
+    requires place { fields.old.place < 2 ^ 40 }
+    requires few { cpus ≤ 64 }
+    ensures timers { result.0 ≡ (read_at (apics (apics_of format cpus)) fields.old).apic }
+    ensures lines { result.1 ≡ (read_at (apics (apics_of format cpus)) fields.old).apic_ticks }
+    ensures next { IsPast (size_of (apics (apics_of format cpus))) fields.old fields.new }
+    ensures near { fields.new.place ≤ fields.old.place + 3520 }
 {
-    let mut all = [NO_TIMER; 64];
+    let mut timers = [NO_TIMER; 64];
+    let mut lines = [NO_LINE; 64];
     for k in 0..apics_of(format, cpus) {
-        all[k as usize] = timer_in(bytes, apic_place(format, cpus, k));
+        timers[k as usize] = timer_in(fields);
+        lines[k as usize] = ticks_in(fields, Policy::Discard);
     }
-    all
+    (timers, lines)
 }
 
-/// Timer `k`, whichever it is.
-#[tactic(auto, unfolding(crate::specs::Fields::apic_timer, crate::specs::Fields::apic_line, byte_table::specs::Kinds::plain))]
-fn timer_in(bytes: &[u8], place: usize) -> ApicParts
-    requires { place < 8000 }
-    ensures { (k : ℕ) → result ≡ (read (apic k) place bytes.now no_apic).0 }
+/// A timer.
+#[tactic(auto, unfolding(crate::specs::Fields::apic_timer, byte_table::specs::Kinds::plain))]
+fn timer_in(fields: &mut Fields) -> ApicParts
+    requires { fields.old.place < 2 ^ 50 }
+    ensures value { result ≡ (read apic_timer fields.old.place fields.old.bytes.now no_apic).0 }
+    ensures next { IsPast 22 fields.old fields.new }
 {
     ApicParts {
-        lvt: four_at(bytes, place),
-        divide: byte_at(bytes, place + 4),
-        initial: four_at(bytes, place + 5),
-        current: four_at(bytes, place + 9),
-        phase: byte_at(bytes, place + 13),
-        deadline: eight_at(bytes, place + 14),
+        lvt: fields.four(),
+        divide: fields.byte(),
+        initial: fields.four(),
+        current: fields.four(),
+        phase: fields.byte(),
+        deadline: fields.eight(),
     }
 }
 
-/// Their tick lines.
-pub(crate) fn apic_lines_in(bytes: &[u8], format: u8, cpus: u8) -> [TickParts; 64]
-    requires { cpus ≤ 64 }
-    ensures { result ≡ map (λ a. a.1)
-        (read_below apic no_apic 0 (apics_of format cpus) (apic_place format cpus 0) bytes.now
-        ++ replicate (64 - apics_of format cpus) no_apic) }
-{
-    let mut all = [NO_LINE; 64];
-    for k in 0..apics_of(format, cpus) {
-        all[k as usize] = line_in(bytes, apic_place(format, cpus, k));
-    }
-    all
-}
-
-/// Tick line `k`, whichever it is.
-#[tactic(auto, unfolding(crate::specs::Fields::apic_timer, crate::specs::Fields::apic_line, byte_table::specs::Kinds::plain))]
-fn line_in(bytes: &[u8], place: usize) -> TickParts
-    requires { place < 7800 }
-    ensures { (k : ℕ) → result ≡ (read (apic k) place bytes.now no_apic).1 }
-{
-    ticks_in(bytes, Policy::Discard, place + 22)
-}
-
-/// The first fault of the timers and their tick lines.
+/// Goes over the timers and their tick lines, up to their first fault.
 #[tactic(auto, unfolding(crate::specs::Fields::apics, byte_table::specs::Kinds::blocks))]
-pub(crate) fn apics_fault(bytes: &[u8], b: &BoardParts) -> Option<StateFault>
+pub(crate) fn check_apics(fields: &mut Fields, b: &BoardParts) -> Result<(), StateFault>
+    requires there { fields.old.place ≤ length fields.old.bytes.now }
     requires few { b.now.cpus ≤ 64 }
     requires rate { IsKhz b.now.anchor.khz }
     requires time { HasTime b.now.anchor b.now.host }
     requires accesses { b.now.accesses ≤ MOST_ACCESSES }
-    ensures { result ≡ fault_in (apics (apics_of b.now.format b.now.cpus)) b.now b.now
-        (apic_place b.now.format b.now.cpus 0) bytes.now }
+    ensures fault { result_err result ≡ fault_in (apics (apics_of b.now.format b.now.cpus)) b.now b.now
+        fields.old.place fields.old.bytes.now }
+    ensures next { OnOk result (Passes (size_of (apics (apics_of b.now.format b.now.cpus)))
+        fields.old fields.new) }
 {
     let most = b.anchor.time_of(b.host) + b.accesses;
     for k in 0..apics_of(b.format, b.cpus) {
-        if let Some(fault) = apic_fault(bytes, b, k, most) {
-            return Some(fault);
-        }
+        check_apic(fields, b, k, most)?;
     }
-    None
+    Ok(())
 }
 
-/// The first fault of timer `k` and its tick line, of which `most` ticks are due, at most.
-fn apic_fault(bytes: &[u8], b: &BoardParts, k: u8, most: u64) -> Option<StateFault>
+/// Goes over timer `k` and its tick line, of which `most` ticks are due, at most.
+fn check_apic(fields: &mut Fields, b: &BoardParts, k: u8, most: u64) -> Result<(), StateFault>
+    requires there { fields.old.place ≤ length fields.old.bytes.now }
     requires k { k < 64 }
-    requires few { b.now.cpus ≤ 64 }
     requires most { most ≡ now_of b.now + b.now.accesses }
-    ensures { result ≡ fault_in (apic k) b.now (slice_index_or (apic_pairs b.now) k no_apic)
-        (apic_place b.now.format b.now.cpus k) bytes.now }
+    ensures fault { result_err result ≡ fault_in (apic k) b.now (slice_index_or (apic_pairs b.now) k no_apic)
+        fields.old.place fields.old.bytes.now }
+    ensures next { OnOk result (Passes 55 fields.old fields.new) }
 {
-    let place = apic_place(b.format, b.cpus, k);
     let p = &b.apic[k as usize];
     let l = &b.apic_ticks[k as usize];
     let rows = [
@@ -176,13 +159,13 @@ fn apic_fault(bytes: &[u8], b: &BoardParts, k: u8, most: u64) -> Option<StateFau
         field(4, current_valid(p)),
         field(1, phase_valid(p)),
         field(8, deadline_valid(p)),
-        field(1, flag_valid(bytes, place + 22)),
+        flag_field(1, true),
         field(8, l.counts.due <= most),
         field(8, true),
         field(8, queue_valid(l)),
         field(8, lost_valid(l)),
     ];
-    fault_in(bytes, place, &rows)
+    check_rows(fields, &rows)
 }
 
 /// Whether the LVT has kept bits alone and a mode that isn't reserved.

@@ -43,8 +43,8 @@ ghost use Rattle.save_state.specs.Writing.{bytes_of};
 use crate::apics::put_apics;
 use crate::appending::{put_counter, put_line, put_processor, put_timer};
 use crate::messages::put_messages;
-use crate::places::{counts_of, end_place};
 use crate::reference::put_references;
+use crate::sizes::{counts_of, size_of};
 use board_core::{BoardState, timers_of};
 use board_devices::DeviceParts;
 use byte_table::{flag_byte, put, put_2, put_4, put_8};
@@ -61,7 +61,7 @@ pub fn encode(alloc: Global, state: &BoardState) -> Result<Vec<u8>, NoMemory>
     ensures valid { IfOk result (λ bytes. fault_of bytes.items ≡ None) }
     ensures reads_back { IfOk result (λ bytes. board_in bytes.items ≡ state.now) }
 {
-    match Vec::with_capacity(alloc, end_place(state.format(), state.cpus())) {
+    match Vec::with_capacity(alloc, size_of(state.format(), state.cpus())) {
         Ok(mut out) => {
             put_board(&mut out, state, &state.device_parts())?;
             Ok(out)

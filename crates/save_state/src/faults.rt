@@ -1,8 +1,10 @@
 //! The first fault of the devices of a board that was read from bytes.
-ghost use Rattle.std.specs.Prelude.{◌≡◌, ◌<◌, ◌+◌, ◌*◌, ◌||◌, nat_le, slice_index_or};
+ghost use Rattle.std.specs.Prelude.{◌≡◌, ◌≤◌, ◌<◌, ◌||◌, nat_le, OnOk, length, slice_index_or};
+ghost use Rattle.std.specs.Result.{result_err};
 ghost use Rattle.hpet_registers.specs.Parts.{no_timer};
 ghost use Rattle.board_types.specs.Setup.{timers_of};
-ghost use Rattle.byte_table.specs.Fold.{fault_in};
+ghost use Rattle.byte_table.specs.Fold.{fault_in, size_of};
+ghost use Rattle.byte_table.specs.Reading.{Passes};
 ghost use Rattle.save_state.specs.Fields.{
   counter,
   no_counter,
@@ -14,9 +16,9 @@ ghost use Rattle.save_state.specs.Fields.{
 };
 
 use crate::fault::StateFault;
-use crate::table::{both, either, fault_in, field};
+use crate::table::{both, check_rows, either, field, flag_field};
 use board_core::{BoardParts, timers_of};
-use byte_table::flag_valid;
+use byte_table::Fields;
 use hpet_comparator::{is_comparator_valid, is_config_valid, is_period_valid};
 use pit_counter::{
     bits_valid, ce_valid, cr_valid, flags_valid, latched_count_valid, latched_status_valid,
@@ -24,45 +26,40 @@ use pit_counter::{
 };
 use rtc_registers::{bytes_valid, cycle_valid, divider_valid, index_valid};
 
-/// The first fault of the counters of the 8254.
+/// Goes over the counters of the 8254, up to their first fault.
 #[tactic(auto, unfolding(crate::specs::Fields::counters, byte_table::specs::Kinds::blocks))]
-pub(crate) fn counters_fault(bytes: &[u8], b: &BoardParts) -> Option<StateFault>
-    ensures { result ≡ fault_in counters b.now b.now 79 bytes.now }
+pub(crate) fn check_counters(fields: &mut Fields, b: &BoardParts) -> Result<(), StateFault>
+    requires { fields.old.place ≤ length fields.old.bytes.now }
+    ensures fault { result_err result ≡ fault_in counters b.now b.now fields.old.place fields.old.bytes.now }
+    ensures next { OnOk result (Passes (size_of counters) fields.old fields.new) }
 {
     for k in 0..3 {
-        if let Some(fault) = counter_fault(bytes, b, k) {
-            return Some(fault);
-        }
+        check_counter(fields, b, k)?;
     }
-    None
+    Ok(())
 }
 
-/// The first fault of counter `k`.
+/// Goes over counter `k`.
 #[tactic(auto, using(crate::proofs::BlockRows::block_rows))]
-fn counter_fault(bytes: &[u8], b: &BoardParts, k: u8) -> Option<StateFault>
-    requires { k < 3 }
-    ensures { result ≡ fault_in (counter k) b.now (slice_index_or b.now.pit.counters k no_counter)
-        (79 + 14 * k) bytes.now }
+fn check_counter(fields: &mut Fields, b: &BoardParts, k: u8) -> Result<(), StateFault>
+    requires there { fields.old.place ≤ length fields.old.bytes.now }
+    requires k { k < 3 }
+    ensures fault { result_err result ≡ fault_in (counter k) b.now (slice_index_or b.now.pit.counters k no_counter)
+        fields.old.place fields.old.bytes.now }
+    ensures next { OnOk result (Passes 14 fields.old fields.new) }
 {
-    let place = 79 + 14 * k as usize;
     let c = b.pit.counter(k);
     let rows = [
         field(1, bits_valid(&c)),
         field(1, both(flags_valid(&c), is_wired(c.gate, k))),
         field(2, cr_valid(&c)),
         field(2, ce_valid(&c)),
-        field(2, both(flag_valid(bytes, place + 6), part_valid(&c))),
-        field(1, both(flag_valid(bytes, place + 8), read_order_valid(&c))),
-        field(
-            3,
-            both(flag_valid(bytes, place + 9), latched_count_valid(&c)),
-        ),
-        field(
-            2,
-            both(flag_valid(bytes, place + 12), latched_status_valid(&c)),
-        ),
+        flag_field(2, part_valid(&c)),
+        flag_field(1, read_order_valid(&c)),
+        flag_field(3, latched_count_valid(&c)),
+        flag_field(2, latched_status_valid(&c)),
     ];
-    fault_in(bytes, place, &rows)
+    check_rows(fields, &rows)
 }
 
 /// Whether GATE of counter `k` is as it is wired: high at counters 0 and 1.
@@ -72,53 +69,60 @@ fn is_wired(gate: bool, k: u8) -> bool
     gate || k >= 2
 }
 
-/// The first fault of speaker data and of the MC146818.
+/// Goes over speaker data and the MC146818.
 #[tactic(auto, using(crate::proofs::BlockRows::block_rows))]
-pub(crate) fn clock_fault(bytes: &[u8], b: &BoardParts) -> Option<StateFault>
-    ensures { result ≡ fault_in clock b.now b.now 121 bytes.now }
+pub(crate) fn check_clock(fields: &mut Fields, b: &BoardParts) -> Result<(), StateFault>
+    requires { fields.old.place ≤ length fields.old.bytes.now }
+    ensures fault { result_err result ≡ fault_in clock b.now b.now fields.old.place fields.old.bytes.now }
+    ensures next { OnOk result (Passes (size_of clock) fields.old fields.new) }
 {
     let rows = [
-        field(1, flag_valid(bytes, 121)),
+        flag_field(1, true),
         field(1, index_valid(&b.rtc)),
         field(128, bytes_valid(&b.rtc)),
         field(2, divider_valid(&b.rtc)),
-        field(1, both(flag_valid(bytes, 253), cycle_valid(&b.rtc))),
+        flag_field(1, cycle_valid(&b.rtc)),
     ];
-    fault_in(bytes, 121, &rows)
+    check_rows(fields, &rows)
 }
 
-/// The first fault of the registers of the HPET.
+/// Goes over the registers of the HPET.
 #[tactic(auto, using(crate::proofs::BlockRows::block_rows))]
-pub(crate) fn registers_fault(bytes: &[u8], b: &BoardParts) -> Option<StateFault>
-    ensures { result ≡ fault_in registers b.now b.now 254 bytes.now }
+pub(crate) fn check_registers(fields: &mut Fields, b: &BoardParts) -> Result<(), StateFault>
+    requires { fields.old.place ≤ length fields.old.bytes.now }
+    ensures fault { result_err result ≡ fault_in registers b.now b.now fields.old.place fields.old.bytes.now }
+    ensures next { OnOk result (Passes (size_of registers) fields.old fields.new) }
 {
     let rows = [
         field(1, b.hpet.config <= 3),
         field(1, either(b.format >= 2, b.hpet.status <= 7)),
         field(8, true),
     ];
-    fault_in(bytes, 254, &rows)
+    check_rows(fields, &rows)
 }
 
-/// The first fault of the timers of the HPET.
+/// Goes over the timers of the HPET, up to their first fault.
 #[tactic(auto, unfolding(crate::specs::Fields::timers, byte_table::specs::Kinds::blocks))]
-pub(crate) fn timers_fault(bytes: &[u8], b: &BoardParts) -> Option<StateFault>
-    ensures { result ≡ fault_in (timers (timers_of b.now.format)) b.now b.now 264 bytes.now }
+pub(crate) fn check_timers(fields: &mut Fields, b: &BoardParts) -> Result<(), StateFault>
+    requires { fields.old.place ≤ length fields.old.bytes.now }
+    ensures fault { result_err result ≡ fault_in (timers (timers_of b.now.format)) b.now b.now
+        fields.old.place fields.old.bytes.now }
+    ensures next { OnOk result (Passes (size_of (timers (timers_of b.now.format))) fields.old fields.new) }
 {
     for k in 0..timers_of(b.format) {
-        if let Some(fault) = timer_fault(bytes, b, k) {
-            return Some(fault);
-        }
+        check_timer(fields, b, k)?;
     }
-    None
+    Ok(())
 }
 
-/// The first fault of timer `k`.
+/// Goes over timer `k`.
 #[tactic(auto, using(crate::proofs::BlockRows::block_rows))]
-fn timer_fault(bytes: &[u8], b: &BoardParts, k: u8) -> Option<StateFault>
-    requires { k < 8 }
-    ensures { result ≡ fault_in (timer k) b.now (slice_index_or b.now.hpet.timer k no_timer)
-        (264 + 18 * k) bytes.now }
+fn check_timer(fields: &mut Fields, b: &BoardParts, k: u8) -> Result<(), StateFault>
+    requires there { fields.old.place ≤ length fields.old.bytes.now }
+    requires k { k < 8 }
+    ensures fault { result_err result ≡ fault_in (timer k) b.now (slice_index_or b.now.hpet.timer k no_timer)
+        fields.old.place fields.old.bytes.now }
+    ensures next { OnOk result (Passes 18 fields.old fields.new) }
 {
     let t = &b.hpet.timer[k as usize];
     let rows = [
@@ -126,5 +130,5 @@ fn timer_fault(bytes: &[u8], b: &BoardParts, k: u8) -> Option<StateFault>
         field(8, is_comparator_valid(t)),
         field(8, is_period_valid(t)),
     ];
-    fault_in(bytes, 264 + 18 * k as usize, &rows)
+    check_rows(fields, &rows)
 }

@@ -18,13 +18,13 @@ mod decoding;
 mod encoding;
 mod fault;
 mod faults;
-mod head;
+mod front;
 mod lines;
 mod messages;
 mod pieces;
-mod places;
 mod reference;
 mod rest;
+mod sizes;
 mod table;
 mod whole;
 

@@ -1,5 +1,6 @@
 //! The first fault of the tick lines, and of the counts of rises.
-ghost use Rattle.std.specs.Prelude.{◌≡◌, ◌+◌, ◌*◌, ◌<◌, ◌≤◌, ◌&&◌, ◌||◌, slice_index_or};
+ghost use Rattle.std.specs.Prelude.{◌≡◌, ◌+◌, ◌<◌, ◌≤◌, ◌&&◌, ◌||◌, OnOk, length, slice_index_or};
+ghost use Rattle.std.specs.Result.{result_err};
 ghost use Rattle.rtc_registers.specs.Registers.{pf_of};
 ghost use Rattle.board_types.specs.Setup.{timers_of, has_messages};
 ghost use Rattle.board_types.specs.declared.parts.TheConstants.{MOST_ACCESSES};
@@ -8,65 +9,68 @@ ghost use Rattle.board_devices.specs.Lines.{levels};
 ghost use Rattle.board_devices.specs.Parts.{AreDevices};
 ghost use Rattle.board_devices.specs.Places.{no_line};
 ghost use Rattle.board_core.specs.Time.{devices_in, now_of, HasTime};
-ghost use Rattle.byte_table.specs.Fold.{fault_in};
+ghost use Rattle.byte_table.specs.Fold.{fault_in, size_of};
+ghost use Rattle.byte_table.specs.Reading.{Passes};
 ghost use Rattle.save_state.specs.Rises.{rise_valid, legacy_rises_valid, routed_rises_valid};
 ghost use Rattle.save_state.specs.Fields.{line, lines, up_allowed, counts_of, rises};
-ghost use Rattle.save_state.specs.private.Places.{line_place, rises_place};
 ghost use Rattle.clk_units.specs.Ranges.{IsKhz};
 
 use crate::fault::StateFault;
-use crate::places::{counts_of, line_place, rises_place};
-use crate::table::{both, fault_in, field};
+use crate::sizes::counts_of;
+use crate::table::{both, check_rows, field, flag_field};
 use board_core::{BoardParts, timers_of};
 use board_devices::{DeviceParts, Devices};
 use board_types::has_messages;
-use byte_table::flag_valid;
+use byte_table::Fields;
 use clk_units::bit;
 use irq_edges::Lines;
 use tick_policy::{lost_valid, queue_valid};
 
-/// The first fault of the tick lines.
+/// Goes over the tick lines, up to their first fault.
 #[tactic(auto, unfolding(crate::specs::Fields::lines, byte_table::specs::Kinds::blocks))]
-pub(crate) fn lines_fault(bytes: &[u8], b: &BoardParts) -> Option<StateFault>
+pub(crate) fn check_lines(fields: &mut Fields, b: &BoardParts) -> Result<(), StateFault>
+    requires there { fields.old.place ≤ length fields.old.bytes.now }
     requires rate { IsKhz b.now.anchor.khz }
     requires time { HasTime b.now.anchor b.now.host }
     requires accesses { b.now.accesses ≤ MOST_ACCESSES }
-    ensures { result ≡ fault_in (lines (timers_of b.now.format)) b.now b.now
-        (line_place b.now.format 0) bytes.now }
+    ensures fault { result_err result ≡ fault_in (lines (timers_of b.now.format)) b.now b.now
+        fields.old.place fields.old.bytes.now }
+    ensures next { OnOk result (Passes (size_of (lines (timers_of b.now.format))) fields.old fields.new) }
 {
     let most = b.anchor.time_of(b.host) + b.accesses;
     let clock_up = clock_up(b);
     for k in 0..timers_of(b.format) + 2 {
-        if let Some(fault) = line_fault(bytes, b, k, most, clock_up) {
-            return Some(fault);
-        }
+        check_line(fields, b, k, most, clock_up)?;
     }
-    None
+    Ok(())
 }
 
-/// The first fault of tick line `k`: `most` ticks are due, at most, and `clock_up` tells whether that of the MC146818
-/// is up.
+/// Goes over tick line `k`: `most` ticks are due, at most, and `clock_up` tells whether that of the MC146818 is up.
 #[tactic(auto, using(crate::proofs::BlockRows::block_rows))]
-fn line_fault(bytes: &[u8], b: &BoardParts, k: u8, most: u64, clock_up: bool) -> Option<StateFault>
+fn check_line(
+    fields: &mut Fields,
+    b: &BoardParts,
+    k: u8,
+    most: u64,
+    clock_up: bool,
+) -> Result<(), StateFault>
+    requires there { fields.old.place ≤ length fields.old.bytes.now }
     requires k { k < 10 }
     requires most { most ≡ now_of b.now + b.now.accesses }
     requires clock_up { clock_up ≡ (counts_rtc (devices_in b.now) && pf_of b.now.rtc) }
-    ensures { result ≡ fault_in (line k) b.now (slice_index_or b.now.ticks k no_line)
-        (line_place b.now.format k) bytes.now }
+    ensures fault { result_err result ≡ fault_in (line k) b.now (slice_index_or b.now.ticks k no_line)
+        fields.old.place fields.old.bytes.now }
+    ensures next { OnOk result (Passes 33 fields.old fields.new) }
 {
-    let place = line_place(b.format, k);
     let l = &b.ticks[k as usize];
     let rows = [
-        field(
-            1,
-            both(flag_valid(bytes, place), up_allowed(k, l.up, clock_up)),
-        ),
+        flag_field(1, up_allowed(k, l.up, clock_up)),
         field(8, l.counts.due <= most),
         field(8, true),
         field(8, queue_valid(l)),
         field(8, lost_valid(l)),
     ];
-    fault_in(bytes, place, &rows)
+    check_rows(fields, &rows)
 }
 
 /// Whether the line of the MC146818 is up while its ticks are counted and PF is 1.
@@ -87,17 +91,18 @@ fn up_allowed(k: u8, up: bool, clock_up: bool) -> bool
     k != 1 || up == clock_up
 }
 
-/// The first fault of the counts of rises.
+/// Goes over the counts of rises.
 #[tactic(auto, using(crate::proofs::BlockRows::block_rows))]
-pub(crate) fn rises_fault(bytes: &[u8], b: &BoardParts) -> Option<StateFault>
+pub(crate) fn check_rises(fields: &mut Fields, b: &BoardParts) -> Result<(), StateFault>
+    requires there { fields.old.place ≤ length fields.old.bytes.now }
     requires accesses { b.now.accesses ≤ MOST_ACCESSES }
     requires devices { AreDevices (devices_in b.now) }
-    ensures { result ≡ fault_in (rises (counts_of b.now.format)) b.now b.now
-        (rises_place b.now.format) bytes.now }
+    ensures fault { result_err result ≡ fault_in (rises (counts_of b.now.format)) b.now b.now
+        fields.old.place fields.old.bytes.now }
+    ensures next { OnOk result (Passes (size_of (rises (counts_of b.now.format))) fields.old fields.new) }
 {
-    let size = 8 * counts_of(b.format);
-    let rows = [field(size, rises_valid(b))];
-    fault_in(bytes, rises_place(b.format), &rows)
+    let rows = [field(8 * counts_of(b.format), rises_valid(b))];
+    check_rows(fields, &rows)
 }
 
 /// Whether the counts of rises are valid; those of lines 20 to 23 are looked at later where timers send messages.

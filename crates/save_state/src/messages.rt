@@ -1,21 +1,23 @@
 //! The messages of the HPET's timers in a saved state: written, read, and their first fault.
-ghost use Rattle.std.specs.Prelude.{◌≡◌, ℕ, ◌+◌, ◌-◌, ◌<◌, ◌≤◌, ◌==◌, ◌||◌, not, ◌++◌, OnOk, map, replicate, slice_index_or};
+ghost use Rattle.std.specs.Prelude.{◌≡◌, ℕ, ◌+◌, ◌<◌, ◌≤◌, ◌^◌, ◌==◌, ◌||◌, not, ◌++◌, OnOk, length, slice_index_or};
+ghost use Rattle.std.specs.Result.{result_err};
 ghost use Rattle.board_types.specs.declared.parts.TheConstants.{MOST_ACCESSES};
 ghost use Rattle.board_devices.specs.Parts.{AreDevices};
 ghost use Rattle.board_core.specs.Time.{devices_in};
-ghost use Rattle.byte_table.specs.Fold.{write, read_below, fault_in};
+ghost use Rattle.byte_table.specs.Fold.{write, fault_in, size_of};
+ghost use Rattle.byte_table.specs.Reading.{IsPast, Passes};
 ghost use Rattle.save_state.specs.Rises.{routed_rises_valid};
 ghost use Rattle.save_state.specs.Fields.{message, messages_of, no_message, message_pairs, messages};
+ghost use Rattle.save_state.specs.private.Cursor.{read_at};
 ghost use Rattle.save_state.specs.private.Devices.{board_with};
-ghost use Rattle.save_state.specs.private.Places.{message_place};
 
 use crate::fault::StateFault;
 use crate::lines::routed_rises_valid;
-use crate::places::{message_place, messages_of};
-use crate::table::{both, fault_in, field};
+use crate::sizes::messages_of;
+use crate::table::{check_rows, field, flag_field};
 use board_core::BoardParts;
 use board_devices::DeviceParts;
-use byte_table::{eight_at, flag_at, flag_byte, flag_valid, put, put_8};
+use byte_table::{Fields, flag_byte, put, put_8};
 use clk_units::NoMemory;
 
 /// The last timer.
@@ -47,67 +49,52 @@ fn put_message(out: &mut Vec<u8>, sends: bool, register: u64) -> Result<(), NoMe
     put_8(out, register)
 }
 
-/// Which timers send messages.
-pub(crate) fn message_bits_in(bytes: &[u8], format: u8, cpus: u8) -> [bool; 8]
-    requires { cpus ≤ 64 }
-    ensures { result ≡ map (λ m. m.0)
-        (read_below message no_message 0 (messages_of format) (message_place format cpus 0) bytes.now
-        ++ replicate (8 - messages_of format) no_message) }
+/// The messages: which timers send them, and their message registers.
+#[tactic(auto, using(crate::proofs::Formats::takes))]
+pub(crate) fn messages_in(fields: &mut Fields, format: u8) -> ([bool; 8], [u64; 8])
+    requires { fields.old.place < 2 ^ 40 }
+    ensures bits { result.0 ≡ (read_at (messages (messages_of format)) fields.old).hpet.message_bit }
+    ensures words { result.1 ≡ (read_at (messages (messages_of format)) fields.old).hpet.message_word }
+    ensures next { IsPast (size_of (messages (messages_of format))) fields.old fields.new }
 {
-    let mut all = [false; 8];
+    let mut bits = [false; 8];
+    let mut words = [0; 8];
     for k in 0..messages_of(format) {
-        all[k as usize] = flag_at(bytes, message_place(format, cpus, k));
+        bits[k as usize] = fields.flag();
+        words[k as usize] = fields.eight();
     }
-    all
+    (bits, words)
 }
 
-/// Their message registers.
-pub(crate) fn message_words_in(bytes: &[u8], format: u8, cpus: u8) -> [u64; 8]
-    requires { cpus ≤ 64 }
-    ensures { result ≡ map (λ m. m.1)
-        (read_below message no_message 0 (messages_of format) (message_place format cpus 0) bytes.now
-        ++ replicate (8 - messages_of format) no_message) }
-{
-    let mut all = [0; 8];
-    for k in 0..messages_of(format) {
-        all[k as usize] = eight_at(bytes, message_place(format, cpus, k) + 1);
-    }
-    all
-}
-
-/// The first fault of the messages.
+/// Goes over the messages, up to their first fault.
 #[tactic(auto, unfolding(crate::specs::Fields::messages, byte_table::specs::Kinds::blocks))]
-pub(crate) fn messages_fault(bytes: &[u8], b: &BoardParts) -> Option<StateFault>
-    requires few { b.now.cpus ≤ 64 }
+pub(crate) fn check_messages(fields: &mut Fields, b: &BoardParts) -> Result<(), StateFault>
+    requires there { fields.old.place ≤ length fields.old.bytes.now }
     requires accesses { b.now.accesses ≤ MOST_ACCESSES }
     requires devices { AreDevices (devices_in b.now) }
-    ensures { result ≡ fault_in (messages (messages_of b.now.format)) b.now b.now
-        (message_place b.now.format b.now.cpus 0) bytes.now }
+    ensures fault { result_err result ≡ fault_in (messages (messages_of b.now.format)) b.now b.now
+        fields.old.place fields.old.bytes.now }
+    ensures next { OnOk result (Passes (size_of (messages (messages_of b.now.format))) fields.old fields.new) }
 {
     for k in 0..messages_of(b.format) {
-        if let Some(fault) = message_fault(bytes, b, k) {
-            return Some(fault);
-        }
+        check_message(fields, b, k)?;
     }
-    None
+    Ok(())
 }
 
-/// The first fault of the messages of timer `k`.
+/// Goes over the messages of timer `k`.
 #[tactic(auto, using(crate::proofs::BlockRows::block_rows))]
-fn message_fault(bytes: &[u8], b: &BoardParts, k: u8) -> Option<StateFault>
+fn check_message(fields: &mut Fields, b: &BoardParts, k: u8) -> Result<(), StateFault>
+    requires there { fields.old.place ≤ length fields.old.bytes.now }
     requires k { k < 8 }
-    requires few { b.now.cpus ≤ 64 }
     requires accesses { b.now.accesses ≤ MOST_ACCESSES }
     requires devices { AreDevices (devices_in b.now) }
-    ensures { result ≡ fault_in (message k) b.now (slice_index_or (message_pairs b.now) k no_message)
-        (message_place b.now.format b.now.cpus k) bytes.now }
+    ensures fault { result_err result ≡ fault_in (message k) b.now (slice_index_or (message_pairs b.now) k no_message)
+        fields.old.place fields.old.bytes.now }
+    ensures next { OnOk result (Passes 9 fields.old fields.new) }
 {
-    let place = message_place(b.format, b.cpus, k);
-    let rows = [
-        field(1, both(flag_valid(bytes, place), rises_allowed(b, k))),
-        field(8, true),
-    ];
-    fault_in(bytes, place, &rows)
+    let rows = [flag_field(1, rises_allowed(b, k)), field(8, true)];
+    check_rows(fields, &rows)
 }
 
 /// Whether the counts of rises of lines 20 to 23 are valid, where timer `k` is the last.

@@ -1,20 +1,19 @@
 //! The reference page of Hyper-V in a saved state: written, read, and its first fault.
-ghost use Rattle.std.specs.Prelude.{◌≡◌, ◌<◌, ◌≤◌, ◌++◌, OnOk};
+ghost use Rattle.std.specs.Prelude.{◌≡◌, ◌+◌, ◌<◌, ◌≤◌, ◌^◌, ◌++◌, OnOk, length};
+ghost use Rattle.std.specs.Result.{result_err};
 ghost use Rattle.clk_units.specs.Ranges.{IsKhz};
 ghost use Rattle.board_core.specs.Hv.{no_hv};
-ghost use Rattle.byte_table.specs.Fold.{write, read, fault_in};
+ghost use Rattle.byte_table.specs.Fold.{write, read, fault_in, size_of};
+ghost use Rattle.byte_table.specs.Reading.{IsPast, Passes};
 ghost use Rattle.save_state.specs.Fields.{scale_for, reference, references, references_of};
-ghost use Rattle.save_state.specs.Places.{format_in, cpus_in};
-ghost use Rattle.save_state.specs.Reading.{board_in};
+ghost use Rattle.save_state.specs.private.Cursor.{read_at};
 ghost use Rattle.save_state.specs.private.Fits.{ReferenceFits};
-ghost use Rattle.save_state.specs.private.Places.{reference_place};
 
 use crate::fault::StateFault;
-use crate::places::reference_place;
 use crate::rest::{published_valid, version_valid};
-use crate::table::{either, fault_in, field};
+use crate::table::{check_rows, either, field};
 use board_core::{BoardParts, BoardState, HV_FORMAT, HvParts, NO_HV};
-use byte_table::{byte_at, eight_at, four_at, put, put_4, put_8};
+use byte_table::{Fields, put, put_4, put_8};
 use clk_units::{NoMemory, bit};
 use hv_page::scale_of;
 
@@ -46,55 +45,60 @@ fn put_reference(out: &mut Vec<u8>, p: &HvParts) -> Result<(), NoMemory>
 }
 
 /// The reference page of a board.
-pub(crate) fn hv_in(bytes: &[u8], format: u8, cpus: u8) -> HvParts
-    requires format { format ≡ format_in bytes.now }
-    requires cpus { cpus ≡ cpus_in bytes.now }
-    requires few { cpus ≤ 64 }
-    ensures { result ≡ (board_in bytes.now).hv }
+#[tactic(auto, using(crate::proofs::Formats::takes))]
+pub(crate) fn hv_in(fields: &mut Fields, format: u8) -> HvParts
+    requires { fields.old.place < 2 ^ 40 }
+    ensures value { result ≡ (read_at (references (references_of format)) fields.old).hv }
+    ensures next { IsPast (size_of (references (references_of format))) fields.old fields.new }
+    ensures near { fields.new.place ≤ fields.old.place + 37 }
 {
     if format < HV_FORMAT {
         return NO_HV;
     }
-    reference_in(bytes, reference_place(format, cpus))
+    reference_in(fields)
 }
 
-/// The reference page at a place.
+/// A reference page.
 #[tactic(auto, unfolding(crate::specs::Fields::reference, byte_table::specs::Kinds::plain))]
-fn reference_in(bytes: &[u8], place: usize) -> HvParts
-    requires { place < 8000 }
-    ensures { result ≡ read (reference 0) place bytes.now no_hv }
+fn reference_in(fields: &mut Fields) -> HvParts
+    requires { fields.old.place < 2 ^ 50 }
+    ensures value { result ≡ read (reference 0) fields.old.place fields.old.bytes.now no_hv }
+    ensures next { IsPast 37 fields.old fields.new }
 {
     HvParts {
-        number: eight_at(bytes, place),
-        version: four_at(bytes, place + 8),
-        cpu: byte_at(bytes, place + 12),
-        scale: eight_at(bytes, place + 13),
-        offset: eight_at(bytes, place + 21),
-        tsc_offset: eight_at(bytes, place + 29),
+        number: fields.eight(),
+        version: fields.four(),
+        cpu: fields.byte(),
+        scale: fields.eight(),
+        offset: fields.eight(),
+        tsc_offset: fields.eight(),
     }
 }
 
-/// The first fault of the reference page.
+/// Goes over the reference page, up to its first fault.
 #[tactic(auto, using(crate::proofs::Blocks::reference_page))]
-pub(crate) fn references_fault(bytes: &[u8], b: &BoardParts) -> Option<StateFault>
-    requires few { b.now.cpus ≤ 64 }
+pub(crate) fn check_references(fields: &mut Fields, b: &BoardParts) -> Result<(), StateFault>
+    requires there { fields.old.place ≤ length fields.old.bytes.now }
     requires rate { IsKhz b.now.guest_khz }
-    ensures { result ≡ fault_in (references (references_of b.now.format)) b.now b.now
-        (reference_place b.now.format b.now.cpus) bytes.now }
+    ensures fault { result_err result ≡ fault_in (references (references_of b.now.format)) b.now b.now
+        fields.old.place fields.old.bytes.now }
+    ensures next { OnOk result (Passes (size_of (references (references_of b.now.format)))
+        fields.old fields.new) }
 {
     if b.format < HV_FORMAT {
-        return None;
+        return Ok(());
     }
-    reference_fault(bytes, b)
+    check_reference(fields, b)
 }
 
-/// The first fault of a reference page.
+/// Goes over a reference page.
 #[tactic(auto, using(crate::proofs::BlockRows::block_rows))]
-fn reference_fault(bytes: &[u8], b: &BoardParts) -> Option<StateFault>
-    requires few { b.now.cpus ≤ 64 }
+fn check_reference(fields: &mut Fields, b: &BoardParts) -> Result<(), StateFault>
+    requires there { fields.old.place ≤ length fields.old.bytes.now }
     requires rate { IsKhz b.now.guest_khz }
-    ensures { result ≡ fault_in (reference 0) b.now b.now.hv
-        (reference_place b.now.format b.now.cpus) bytes.now }
+    ensures fault { result_err result ≡ fault_in (reference 0) b.now b.now.hv
+        fields.old.place fields.old.bytes.now }
+    ensures next { OnOk result (Passes 37 fields.old fields.new) }
 {
     let p = &b.hv;
     let scale = scale_for(b.guest_khz, p.number);
@@ -109,7 +113,7 @@ fn reference_fault(bytes: &[u8], b: &BoardParts) -> Option<StateFault>
         field(8, either(0 < p.scale, p.offset == 0)),
         field(8, either(0 < p.scale, p.tsc_offset == 0)),
     ];
-    fault_in(bytes, reference_place(b.format, b.cpus), &rows)
+    check_rows(fields, &rows)
 }
 
 /// The scale of a page with this number.

@@ -1,26 +1,29 @@
 //! The first fault of what follows the tick lines and the counts of rises.
-ghost use Rattle.std.specs.Prelude.{◌≡◌, ◌*◌, ◌<◌, ◌≤◌, slice_index_or};
+ghost use Rattle.std.specs.Prelude.{◌≡◌, ◌*◌, ◌<◌, ◌≤◌, OnOk, length, slice_index_or};
+ghost use Rattle.std.specs.Result.{result_err};
 ghost use Rattle.std.specs.Int.{w8, cast_unsigned};
 ghost use Rattle.pvclock_page.specs.Scale.{mul_for, shift_for};
 ghost use Rattle.clk_units.specs.Ranges.{IsKhz};
 ghost use Rattle.board_core.specs.Tsc.{no_processor};
-ghost use Rattle.byte_table.specs.Fold.{fault_in};
+ghost use Rattle.byte_table.specs.Fold.{fault_in, size_of};
+ghost use Rattle.byte_table.specs.Reading.{Passes};
 ghost use Rattle.save_state.specs.Fields.{wall, version_valid, published_valid, processor, processors};
 ghost use Rattle.save_state.specs.Table.{trailing};
 ghost use Rattle.save_state.specs.private.Rows.{processor_rows};
-ghost use Rattle.save_state.specs.private.Places.{wall_place, processor_place, end_place};
 
 use crate::fault::{StateFault, StateKind};
-use crate::places::{end_place, processor_place, wall_place};
-use crate::table::{Row, either, fault_in, field};
+use crate::table::{Row, check_rows, either, field};
 use board_core::{BoardParts, ProcessorParts};
+use byte_table::Fields;
 use clk_units::RANGE_NS;
 use pvclock_page::scale_of;
 
-/// The first fault of the wall clock.
+/// Goes over the wall clock.
 #[tactic(auto, using(crate::proofs::BlockRows::block_rows))]
-pub(crate) fn wall_fault(bytes: &[u8], b: &BoardParts) -> Option<StateFault>
-    ensures { result ≡ fault_in wall b.now b.now (wall_place b.now.format) bytes.now }
+pub(crate) fn check_wall(fields: &mut Fields, b: &BoardParts) -> Result<(), StateFault>
+    requires { fields.old.place ≤ length fields.old.bytes.now }
+    ensures fault { result_err result ≡ fault_in wall b.now b.now fields.old.place fields.old.bytes.now }
+    ensures next { OnOk result (Passes (size_of wall) fields.old fields.new) }
 {
     let rows = [
         field(8, true),
@@ -28,36 +31,44 @@ pub(crate) fn wall_fault(bytes: &[u8], b: &BoardParts) -> Option<StateFault>
         field(4, true),
         field(4, b.wall_nsec < 1_000_000_000),
     ];
-    fault_in(bytes, wall_place(b.format), &rows)
+    check_rows(fields, &rows)
 }
 
-/// The first fault of the processors.
+/// Goes over the processors, up to their first fault.
 #[tactic(auto, unfolding(crate::specs::Fields::processors, byte_table::specs::Kinds::blocks))]
-pub(crate) fn processors_fault(bytes: &[u8], b: &BoardParts) -> Option<StateFault>
+pub(crate) fn check_processors(fields: &mut Fields, b: &BoardParts) -> Result<(), StateFault>
+    requires there { fields.old.place ≤ length fields.old.bytes.now }
     requires few { b.now.cpus ≤ 64 }
     requires rate { IsKhz b.now.guest_khz }
-    ensures { result ≡ fault_in (processors b.now.cpus) b.now b.now
-        (processor_place b.now.format 0) bytes.now }
+    ensures fault { result_err result ≡ fault_in (processors b.now.cpus) b.now b.now
+        fields.old.place fields.old.bytes.now }
+    ensures next { OnOk result (Passes (size_of (processors b.now.cpus)) fields.old fields.new) }
 {
     let (mul, shift) = scale_of(b.guest_khz * 1000);
     for k in 0..b.cpus {
-        if let Some(fault) = processor_fault(bytes, b, k, mul, shift.cast_unsigned()) {
-            return Some(fault);
-        }
+        check_processor(fields, b, k, mul, shift.cast_unsigned())?;
     }
-    None
+    Ok(())
 }
 
-/// The first fault of processor `k`, by the scale of the guest's rate, `shift` as its byte.
-fn processor_fault(bytes: &[u8], b: &BoardParts, k: u8, mul: u32, shift: u8) -> Option<StateFault>
+/// Goes over processor `k`, by the scale of the guest's rate, `shift` as its byte.
+fn check_processor(
+    fields: &mut Fields,
+    b: &BoardParts,
+    k: u8,
+    mul: u32,
+    shift: u8,
+) -> Result<(), StateFault>
+    requires there { fields.old.place ≤ length fields.old.bytes.now }
     requires k { k < 64 }
     requires mul { mul ≡ mul_for (b.now.guest_khz * 1000) }
     requires shift { shift ≡ cast_unsigned w8 (shift_for (b.now.guest_khz * 1000)) }
-    ensures { result ≡ fault_in (processor k) b.now (slice_index_or b.now.processors k no_processor)
-        (processor_place b.now.format k) bytes.now }
+    ensures fault { result_err result ≡ fault_in (processor k) b.now (slice_index_or b.now.processors k no_processor)
+        fields.old.place fields.old.bytes.now }
+    ensures next { OnOk result (Passes 50 fields.old fields.new) }
 {
     let rows = processor_rows(&b.processors[k as usize], mul, shift);
-    fault_in(bytes, processor_place(b.format, k), &rows)
+    check_rows(fields, &rows)
 }
 
 /// The rows of a processor, by the guest's scale.
@@ -108,18 +119,16 @@ pub(crate) fn published_valid(version: u32, value: u64, valid: bool) -> bool
     if version == 0 { value == 0 } else { valid }
 }
 
-/// Bytes after the last field.
-pub(crate) fn trailing_fault(bytes: &[u8], b: &BoardParts) -> Option<StateFault>
-    requires { b.now.cpus ≤ 64 }
-    ensures { result ≡ trailing (end_place b.now.format b.now.cpus) bytes.now }
+/// Whether no byte follows the last field.
+pub(crate) fn check_end(fields: &Fields) -> Result<(), StateFault>
+    ensures { result_err result ≡ trailing fields.now.place fields.now.bytes.now }
 {
-    let wanted = end_place(b.format, b.cpus);
-    if wanted < bytes.len() {
-        Some(StateFault {
+    let wanted = fields.place;
+    if wanted < fields.bytes.len() {
+        return Err(StateFault {
             place: wanted as u64,
             kind: StateKind::Trailing,
-        })
-    } else {
-        None
+        });
     }
+    Ok(())
 }

@@ -91,11 +91,10 @@ fn goes_on_after_a_fault(rt: HostRuntime) {
     let mut source = ReadSource::new(Flaky { is_well: false });
     same(&rt, "first take", source.take(&mut piece), Err(Failed));
     same(&rt, "second take", source.take(&mut piece), Ok(4096));
-    same(&rt, "source", (piece[4095], source.faults()), (1, 1));
+    same(&rt, "its last byte", piece[4095], 1);
     let mut sink = WriteSink::new(Flaky { is_well: false });
     same(&rt, "first put", sink.put(&piece), Err(Failed));
     same(&rt, "second put", sink.put(&piece), Ok(4096));
-    same(&rt, "sink", sink.faults(), 1);
 }
 
 #[test]

@@ -162,50 +162,6 @@ fn counted_clock_lines_are_whole_lines(rt: HostRuntime) {
     }
 }
 
-/// The lines of edges whose first digits stay, change, are few or fall are those that are written whole.
-#[test]
-fn counted_edges_are_whole_lines(rt: HostRuntime) {
-    let mut out = Vec::new(rt.alloc());
-    let mut wanted = Vec::new(rt.alloc());
-    let mut lines = CountedLines::new();
-    let to = Some(Delivery {
-        cpu: 15,
-        vector: 0x30,
-    });
-    for (at, line) in [
-        (5, 0),
-        (99_999_999, 0),
-        (100_000_000, 8),
-        (199_999_999, 8),
-        (200_000_000, 20),
-        (123_456_789_012, 0),
-        (123_456_789_013, 23),
-        (123_400_000_001, 100),
-        (7, 0),
-        (18_446_744_073_699_999_999, 0),
-        (18_446_744_073_700_000_000, 0),
-        (u64::MAX, 100),
-        (0, 0),
-    ] {
-        let rise = Edge { at, line, up: true };
-        let fall = Edge {
-            at,
-            line,
-            up: false,
-        };
-        let put = [
-            lines.edge_line(&rise, None, &mut out),
-            lines.edge_line(&rise, to, &mut out),
-            lines.edge_line(&fall, None, &mut out),
-            edge_line(&rise, None, &mut wanted),
-            edge_line(&rise, to, &mut wanted),
-            edge_line(&fall, None, &mut wanted),
-        ];
-        same(&rt, (at, line), put, [Ok(()); 6]);
-        same(&rt, (at, line), out.as_slice(), wanted.as_slice());
-    }
-}
-
 /// Processors, lines and vectors of one, two and three digits.
 #[test]
 fn edges_of_each_length(rt: HostRuntime) {

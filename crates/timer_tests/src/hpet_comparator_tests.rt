@@ -1,6 +1,7 @@
 //! Registers, and stretches against the plain program of one pulse after the other.
 
 use crate::checks::same;
+use crate::numbers::next_number;
 use hpet_comparator::{MainCounter, Matches, Timer, TimerParts, write_part};
 use std::process::Abort;
 
@@ -110,12 +111,6 @@ fn pulses_one_by_one(parts: TimerParts, from: u64, n: u64) -> (TimerParts, Match
         }
     }
     (parts, matches)
-}
-
-/// The next number of a generator with a fixed seed.
-fn next_number(x: u64) -> u64 {
-    x.wrapping_mul(6_364_136_223_846_793_005)
-        .wrapping_add(1_442_695_040_888_963_407)
 }
 
 /// A timer near a main counter, so that first matches, periods and wraps fall within a short

@@ -2,6 +2,7 @@
 //! of one nanosecond after the other.
 
 use crate::checks::{holds, same};
+use crate::numbers::next_number;
 use clk_units::{RANGE_NS, is_khz};
 use host_counter::Anchor;
 use lapic_timer::{ApicField, ApicParts, ApicRegister, ApicTimer, Fires, first_reach};
@@ -151,12 +152,6 @@ fn some_timer(divide: u32, x: u64) -> ApicTimer {
     let lvt = (x >> 60) as u32 % 4 * 0x1_0000;
     let (timer, _) = after(timer_of(divide, lvt, (x >> 50) as u32 % 9), (x >> 40) % 300);
     timer
-}
-
-/// The next number of a generator with a fixed seed.
-fn next_number(x: u64) -> u64 {
-    x.wrapping_mul(6_364_136_223_846_793_005)
-        .wrapping_add(1_442_695_040_888_963_407)
 }
 
 #[test]

@@ -22,6 +22,8 @@ mod irq_edges_tests;
 #[cfg(test)]
 mod lapic_timer_tests;
 #[cfg(test)]
+mod numbers;
+#[cfg(test)]
 mod pit_counter_tests;
 #[cfg(test)]
 mod pit_readback_tests;

@@ -2,6 +2,7 @@
 //! "Mode Definitions".
 
 use crate::checks::{holds, same};
+use crate::numbers::next_number;
 use pit_counter::{Counter, CounterParts, Rises, pulsed};
 use std::process::Abort;
 
@@ -380,12 +381,6 @@ fn pulses_one_by_one(parts: CounterParts, n: u64) -> (CounterParts, Rises) {
         parts = next;
     }
     (parts, rises)
-}
-
-/// The next number of a generator with a fixed seed.
-fn next_number(x: u64) -> u64 {
-    x.wrapping_mul(6_364_136_223_846_793_005)
-        .wrapping_add(1_442_695_040_888_963_407)
 }
 
 /// Does to a counter what the bits of a number say: a control word and a small count, any control

@@ -4,6 +4,7 @@
 ghost use Rattle.std.specs.Prelude.{◌+◌, ◌*◌, ◌<◌, ◌≤◌};
 
 use crate::checks::same;
+use crate::numbers::next_number;
 use rtc_calendar::{Alarm, Form, TimeBytes, after, first_match, let_pass, matches, updated};
 use std::process::Abort;
 
@@ -187,10 +188,7 @@ impl Numbers {
         requires { 0 < limit }
         ensures { result < limit }
     {
-        self.state = self
-            .state
-            .wrapping_mul(6_364_136_223_846_793_005)
-            .wrapping_add(1_442_695_040_888_963_407);
+        self.state = next_number(self.state);
         (self.state / 65_536 % limit as u64) as u8
     }
 

@@ -2,6 +2,7 @@
 //! of one pulse after the other.
 
 use crate::checks::{holds, same};
+use crate::numbers::next_number;
 use rtc_calendar::{Alarm, Form, TimeBytes, after, matches};
 use rtc_cycle::{CycleEvents, Divider, DividerParts};
 use rtc_registers::{Rtc, RtcEvents, RtcField, RtcParts};
@@ -282,12 +283,6 @@ fn pulses_one_by_one(parts: RtcParts, divider: Divider, n: u64) -> (RtcParts, Rt
         ..parts
     };
     (parts, events)
-}
-
-/// The next number of a generator with a fixed seed.
-fn next_number(x: u64) -> u64 {
-    x.wrapping_mul(6_364_136_223_846_793_005)
-        .wrapping_add(1_442_695_040_888_963_407)
 }
 
 /// Does to a clock what the bits of a number say: a rate or now and then a stop, a form of the time bytes or now and

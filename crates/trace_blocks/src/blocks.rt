@@ -4,7 +4,7 @@ ghost use Rattle.std.specs.Io.{StartsWith};
 ghost use Rattle.trace_blocks.specs.Blocks.{edges_text, messages_text, block_of};
 ghost use Rattle.trace_blocks.specs.declared.records.Answer.TheVariants.{Acted};
 
-use crate::deliveries::{Deliveries, counted_edge_lines, edge_lines, message_lines};
+use crate::deliveries::{Deliveries, edge_lines, message_lines};
 use board_core::Reply;
 use clk_units::NoMemory;
 use reply_text::{CountedLines, board_line};
@@ -24,8 +24,7 @@ pub(crate) fn event_lines(
     message_lines(&reply.bursts, deliveries, out)
 }
 
-/// Appends the block of an access: its edges, its messages, and its line. Where `counted` is given it prints the edges and the
-/// line. After an `Err` the text begins as it was.
+/// Appends the block of an access: its edges, its messages, and its line. Where `counted` is given it prints the line. After an `Err` the text begins as it was.
 #[inline(always)]
 #[tactic(auto, unfolding(crate::specs::Blocks::block_of))]
 pub fn access_block(
@@ -39,30 +38,9 @@ pub fn access_block(
         (out.new.items ≡ out.old.items ++ block_of deliveries.now line (Acted reply.now)) }
     ensures err { OnErr result (StartsWith out.new.items out.old.items) }
 {
+    event_lines(reply, deliveries, out)?;
     match counted {
-        Some(lines) => counted_block(line, reply, deliveries, lines, out),
-        None => {
-            event_lines(reply, deliveries, out)?;
-            board_line(line, reply, out)
-        }
+        Some(lines) => lines.board_line(line, reply, out),
+        None => board_line(line, reply, out),
     }
-}
-
-/// The same where `lines` prints the edges and the line.
-#[inline(always)]
-#[tactic(auto, unfolding(crate::specs::Blocks::block_of))]
-fn counted_block(
-    line: u64,
-    reply: &Reply,
-    deliveries: &Deliveries,
-    lines: &mut CountedLines,
-    out: &mut Vec<u8>,
-) -> Result<(), NoMemory>
-    ensures ok { OnOk result
-        (out.new.items ≡ out.old.items ++ block_of deliveries.now line (Acted reply.now)) }
-    ensures err { OnErr result (StartsWith out.new.items out.old.items) }
-{
-    counted_edge_lines(reply.edges.as_slice(), deliveries, lines, out)?;
-    message_lines(&reply.bursts, deliveries, out)?;
-    lines.board_line(line, reply, out)
 }

@@ -16,7 +16,7 @@ ghost use Rattle.std.specs.List.{flat_map};
 use clk_units::NoMemory;
 use edge_hooks::{Delivery, Message, MessageHooks};
 use irq_edges::{BurstList, Edge};
-use reply_text::{CountedLines, edge_line, msg_line};
+use reply_text::{edge_line, msg_line};
 
 /// The vector of a message whose own is reserved.
 const DEFAULT_VECTOR: u8 = 0x30;
@@ -70,24 +70,6 @@ pub(crate) fn edge_lines(
 {
     for edge in edges {
         edge_line(edge, delivery_of(deliveries, edge), out)?;
-    }
-    Ok(())
-}
-
-/// The same with the digits that `lines` keeps.
-#[inline(always)]
-pub(crate) fn counted_edge_lines(
-    edges: &[Edge],
-    deliveries: &Deliveries,
-    lines: &mut CountedLines,
-    out: &mut Vec<u8>,
-) -> Result<(), NoMemory>
-    ensures ok { OnOk result
-        (out.new.items ≡ out.old.items ++ edges_text deliveries.now edges.now) }
-    ensures err { OnErr result (StartsWith out.new.items out.old.items) }
-{
-    for edge in edges {
-        lines.edge_line(edge, delivery_of(deliveries, edge), out)?;
     }
     Ok(())
 }

@@ -57,8 +57,8 @@ pub enum End {
     },
 }
 
-/// Does what ends a phase, and appends its block; or says why it is refused, and then appends nothing. A move that its gap
-/// refuses leaves the board after the access before it.
+/// Does what ends a phase, and appends its block; or says why it is refused, and then appends nothing and leaves the board
+/// as it was.
 #[inline(never)]
 pub fn end_phase(
     end: &End,
@@ -72,6 +72,7 @@ pub fn end_phase(
     ensures text { IfOk result (λ f. IfNone f (out.new.items
         ≡ out.old.items ++ end_text deliveries.now end.now board.old)) }
     ensures refused { IfOk result (λ f. IfSome f (λ _. out.new.items ≡ out.old.items)) }
+    ensures unchanged { IfOk result (λ f. IfSome f (λ _. board.new ≡ board.old)) }
     ensures err { OnErr result (StartsWith out.new.items out.old.items) }
 {
     match *end {
@@ -83,10 +84,13 @@ pub fn end_phase(
             }
             Err(refusal) => Ok(refused(line, Cause::Access { refusal })),
         },
-        End::Move { line, cpu, h, host } => match board.access(cpu, h, Access::Step) {
-            Ok(reply) => cross_gap(line, &reply, host, board, deliveries, out),
-            Err(refusal) => Ok(refused(line, Cause::Access { refusal })),
-        },
+        End::Move { line, cpu, h, host } => {
+            let mut stepped = *board;
+            match stepped.access(cpu, h, Access::Step) {
+                Ok(reply) => cross_gap(line, &reply, host, &stepped, board, deliveries, out),
+                Err(refusal) => Ok(refused(line, Cause::Access { refusal })),
+            }
+        }
     }
 }
 
@@ -114,26 +118,28 @@ fn save(
     save_line(line, reply.number, &bytes, out)
 }
 
-/// Takes a board over the gap, after an access that gave this reply, and appends the block of the move.
+/// Takes a board over the gap, from the one after an access that gave this reply, and appends the block of the move.
 fn cross_gap(
     line: u64,
     reply: &Reply,
     host: NewHost,
+    stepped: &BoardState,
     board: &mut BoardState,
     deliveries: &Deliveries,
     out: &mut Vec<u8>,
 ) -> Result<Option<Fault>, NoMemory>
     requires rate { IsKhz host.khz }
     ensures fault { IfOk result
-        (λ f. f ≡ at_line line (option_map ByMove (move_fault host.gap board.old))) }
+        (λ f. f ≡ at_line line (option_map ByMove (move_fault host.gap stepped.now))) }
     ensures board { IfOk result (λ f. IfNone f
-        (board.new ≡ moved_to host.khz host.start host.gap board.old)) }
+        (board.new ≡ moved_to host.khz host.start host.gap stepped.now)) }
     ensures text { IfOk result (λ f. IfNone f (out.new.items
-        ≡ out.old.items ++ move_block deliveries.now line host reply.now board.old)) }
+        ≡ out.old.items ++ move_block deliveries.now line host reply.now stepped.now)) }
     ensures refused { IfOk result (λ f. IfSome f (λ _. out.new.items ≡ out.old.items)) }
+    ensures unchanged { IfOk result (λ f. IfSome f (λ _. board.new ≡ board.old)) }
     ensures err { OnErr result (StartsWith out.new.items out.old.items) }
 {
-    match moved(board, host.khz, host.start, host.gap) {
+    match moved(stepped, host.khz, host.start, host.gap) {
         Ok(moved) => {
             all_edge_lines(reply, &moved, deliveries, out)?;
             all_message_lines(reply, &moved, deliveries, out)?;

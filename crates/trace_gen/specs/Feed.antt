@@ -1,23 +1,13 @@
 -- A generated trace as a source.
-use Rattle.std.specs.Prelude.{ℕ, Bool, List, Some}
-use Rattle.board_io.specs.Ends.{Input}
+use Rattle.std.specs.Prelude.{ℕ, List, Some}
+use Rattle.byte_log.specs.Calls.{Call}
+use Rattle.board_io.specs.Ends.{Input, input_of}
 
--- the bytes left, how many it gave, and had given when it was called last; whether a call gave nothing, and whether
--- one came after it
+-- the bytes left, and the log of the source's calls
 pub record Feed : Type 0 where
   pub left : List ℕ
-  pub given : ℕ
-  pub before : ℕ
-  pub done : Bool
-  pub late : Bool
+  pub log : List Call
 
 -- as a source, which has no faults
 abbrev pub input_in : Feed → Input
-input_in f = record {
-  remaining = Some f.left;
-  given = f.given;
-  before = f.before;
-  done = f.done;
-  late = f.late;
-  faults = 0;
-}
+input_in f = record (input_of (Some f.left) f.log) { faults = 0 }

@@ -1,5 +1,5 @@
 //! Generated traces as sources.
-ghost use Rattle.std.specs.Prelude.{◌≡◌, ◌<◌, ◌≤◌, false, length, min, IfOk, IsOk};
+ghost use Rattle.std.specs.Prelude.{◌≡◌, ◌<◌, ◌≤◌, [], length, min, IfOk, IsOk};
 ghost use Rattle.board_io.specs.Ends.{IsTaken};
 ghost use Rattle.trace_gen.specs.Feed.{input_in};
 ghost use Rattle.trace_gen.specs.Text.{gen_text};
@@ -7,33 +7,29 @@ ghost use Rattle.trace_gen.specs.declared.generator.TheConstants.{RECORDS_MAX, C
 
 use crate::generator::Generator;
 use board_io::{Failed, Source};
+use byte_log::ByteLog;
 use std::marker::Model;
 
 /// A generated trace as a source, which never fails.
 #[derive(Drop)]
 pub struct GenSource {
     generator: Generator,
-    given: u64,
-    before: u64,
-    done: bool,
-    late: bool,
+    log: ByteLog,
 }
 
 impl Model for GenSource {
     ghost use Rattle.std.specs.Prelude.{◌+◌, ◌≤◌, ◌^◌, length};
+    ghost use Rattle.byte_log.specs.Calls.{bytes_in};
     ghost use Rattle.trace_gen.specs.Feed.{Feed};
 
     ghost Value = { Feed };
 
     ghost view = { λ s. record {
       left = s.generator;
-      given = s.given;
-      before = s.before;
-      done = s.done;
-      late = s.late;
+      log = s.log.calls;
     } };
 
-    ghost invariant = { λ s. s.given + length s.generator ≤ 2 ^ 24 };
+    ghost invariant = { λ s. length (bytes_in s.log.calls) + length s.generator ≤ 2 ^ 24 };
 }
 
 impl GenSource {
@@ -42,20 +38,11 @@ impl GenSource {
         requires records { records ≤ RECORDS_MAX }
         requires some_cpu { 0 < cpus }
         requires cpus { cpus ≤ CPUS_MAX }
-        ensures { result ≡ record {
-          left = gen_text key records cpus;
-          given = 0;
-          before = 0;
-          done = false;
-          late = false;
-        } }
+        ensures { result ≡ record { left = gen_text key records cpus; log = [] } }
     {
         GenSource {
             generator: Generator::new(key, records, cpus),
-            given: 0,
-            before: 0,
-            done: false,
-            late: false,
+            log: ByteLog::new(),
         }
     }
 }
@@ -70,11 +57,8 @@ impl Source for GenSource {
         ensures piece { IfOk result (λ n. n ≡ min (length into.old) (length self.old.left)) }
         ensures never { IsOk result }
     {
-        self.before = self.given;
-        self.late = self.late || self.done;
         let n = self.generator.fill(into);
-        self.given += n as u64;
-        self.done = self.done || n == 0;
+        self.log.add(into, n);
         Ok(n)
     }
 }

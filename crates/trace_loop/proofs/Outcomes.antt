@@ -35,8 +35,9 @@ use Rattle.std.proofs.Common.{
   append-nil,
   length-append,
 }
-use Rattle.std.specs.Io.KnownBytes.{Appends, Consumes, IsAtEnd}
-use Rattle.std.proofs.KnownBytes.{Appends-trans}
+use Rattle.std.specs.Io.KnownBytes.{Consumes, IsAtEnd}
+use Rattle.board_io.specs.Ends.{Grows, Input, Output, Held}
+use Rattle.board_io.proofs.Bytes.{Grows-trans}
 use Rattle.std.proofs.lemmas.List.{take_all, take-append-le}
 use Rattle.board_io.specs.Faults.{Rose}
 use Rattle.trace_loop.specs.Text.{source_fault_text, memory_fault_text}
@@ -56,7 +57,6 @@ use Rattle.trace_loop.specs.Progress.{
   finished,
 }
 use Rattle.trace_loop.specs.Cut.{Cut, IsLine, IsWhole}
-use Rattle.board_io.specs.Ends.{Input, Output}
 use Rattle.trace_loop.specs.Outcome.{Begins, Run, run_over, IsText, IsSourceFault, IsMemoryFault, Outcome, IsPutAll, Said}
 use Rattle.trace_loop.specs.private.Going.{IsAsked, Stands}
 use Rattle.trace_loop.specs.declared.ended.Ended.{Ended}
@@ -65,12 +65,11 @@ use Rattle.trace_loop.proofs.Progresses.{after-++, after-bytes, after-line, afte
 
 -- a count that rose in one part of a call rose in the call
 pub Rose-within : (a b c d : ℕ) → a ≤ b → c ≤ d → Rose b c → Rose a d
-Rose-within a b c d before after (inl rose) = inl (omega arith)
-Rose-within a b c d before after (inr last) = inr (omega arith)
+Rose-within a b c d before after rose = omega arith
 
 -- a text that was put whole
 pub record IsWholePut (before after : Output) (text : List ℕ) : Type 0 where
-  pub all : Appends before.contents after.contents text
+  pub all : Grows before.contents after.contents text
   pub well : after.faults ≡ before.faults
   pub quiet : after.done ≡ before.done
 
@@ -85,16 +84,16 @@ on_err_from_is_err {T} {E} (Ok x) A failed h = cc
 on_err_from_is_err {T} {E} (Err e) A failed h = h
 
 -- a text that was written whole, and another after it
-pub said-after : {E : Type 0} (status result : Ended E) (c0 c1 c2 : Option (List ℕ)) (first second : List ℕ) (f0 f1 f2 : ℕ) → f0 ≤ f1 → Appends c0 c1 first
+pub said-after : {E : Type 0} (status result : Ended E) (c0 c1 c2 : Held) (first second : List ℕ) (f0 f1 f2 : ℕ) → f0 ≤ f1 → Grows c0 c1 first
     → Said status result c1 c2 second (Rose f1 f2) → Said status result c0 c2 (first ++ second) (Rose f0 f2)
-said-after status result c0 c1 c2 first second f0 f1 f2 more before (inl said) = inl (said.0, Appends-trans c0 c1 c2 first second before said.1)
+said-after status result c0 c1 c2 first second f0 f1 f2 more before (inl said) = inl (said.0, Grows-trans c0 c1 c2 first second before said.1)
 said-after status result c0 c1 c2 first second f0 f1 f2 more before (inr cut) = inr (
   cut.0,
   Rose-within f0 f1 f2 f2 more (omega arith) cut.1,
   (
     first ++ cut.2.0,
     (cut.2.1.0, ap (λ (l : List ℕ). first ++ l) cut.2.1.1 ∙ sym (append_assoc first cut.2.0 cut.2.1.0)),
-    Appends-trans c0 c1 c2 first cut.2.0 before cut.2.2,
+    Grows-trans c0 c1 c2 first cut.2.0 before cut.2.2,
   ),
 )
 
@@ -311,9 +310,9 @@ IsShown w text = IsText w text ⊎ (IsSourceFault w text ⊎ IsMemoryFault w tex
 
 module _ (A E : Type 0) (w : Run A E) where
   -- a sink that failed has taken what was put before, and a prefix of the last text
-  pub cut_off : (put last more text : List ℕ) (c0 c1 c2 : Option (List ℕ)) → Appends c0 c1 put → Begins (w.at (w.end.before - w.start.given)).printed put
+  pub cut_off : (put last more text : List ℕ) (c0 c1 c2 : Held) → Grows c0 c1 put → Begins (w.at (w.end.before - w.start.given)).printed put
       → IsShown w text → text ≡ put ++ (last ++ more)
-      → (cut : List ℕ) × Begins cut last × Appends c1 c2 cut → Outcome w statuses.SinkFault c0 c2
+      → (cut : List ℕ) × Begins cut last × Grows c1 c2 cut → Outcome w statuses.SinkFault c0 c2
   cut_off put last more text c0 c1 c2 before held shown whole cut = (
     put ++ cut.0,
     (
@@ -328,21 +327,21 @@ module _ (A E : Type 0) (w : Run A E) where
         ),
       ),
     ),
-    Appends-trans c0 c1 c2 put cut.0 before cut.2,
+    Grows-trans c0 c1 c2 put cut.0 before cut.2,
   )
 
   -- the last text was put, or the sink failed
-  pub said_out : (status result : Ended E) (put last : List ℕ) (c0 c1 c2 : Option (List ℕ)) (fault : Type 0) → Appends c0 c1 put
+  pub said_out : (status result : Ended E) (put last : List ℕ) (c0 c1 c2 : Held) (fault : Type 0) → Grows c0 c1 put
       → Begins (w.at (w.end.before - w.start.given)).printed put → IsShown w (put ++ last)
-      → (Appends c0 c2 (put ++ last) → Outcome w status c0 c2) → Said status result c1 c2 last fault → Outcome w result c0 c2
+      → (Grows c0 c2 (put ++ last) → Outcome w status c0 c2) → Said status result c1 c2 last fault → Outcome w result c0 c2
   said_out status result put last c0 c1 c2 fault before held shown out (inl said) =
-      subst (λ (s : Ended E). Outcome w s c0 c2) (sym said.0) (out (Appends-trans c0 c1 c2 put last before said.1))
+      subst (λ (s : Ended E). Outcome w s c0 c2) (sym said.0) (out (Grows-trans c0 c1 c2 put last before said.1))
   said_out status result put last c0 c1 c2 fault before held shown out (inr cut) =
       subst (λ (s : Ended E). Outcome w s c0 c2) (sym cut.0)
       (cut_off put last [] (put ++ last) c0 c1 c2 before held shown (ap (λ (l : List ℕ). put ++ l) (sym (append-nil last))) cut.2)
 
-  pub ended_out : (end : E) (text : List ℕ) (c0 c2 : Option (List ℕ)) → w.whole ≡ record { text = text; end = end } → w.end.faults ≡ w.start.faults
-      → Appends c0 c2 text → Outcome w (statuses.By end) c0 c2
+  pub ended_out : (end : E) (text : List ℕ) (c0 c2 : Held) → w.whole ≡ record { text = text; end = end } → w.end.faults ≡ w.start.faults
+      → Grows c0 c2 text → Outcome w (statuses.By end) c0 c2
   ended_out end text c0 c2 is well shown = (sym (ap (λ (r : Closing E). r.end) is), (text, (sym (ap (λ (r : Closing E). r.text) is), well), shown))
 
 module _ (A E : Type 0) (answer : ℕ → A → List ℕ → Answer A E) (closing : ℕ → A → Closing E) (a : A) (input : List ℕ) (start now : Input) where
@@ -360,9 +359,9 @@ module _ (A E : Type 0) (answer : ℕ → A → List ℕ → Answer A E) (closin
   held put place asked = ([], sym asked.printed_ ∙ sym (append-nil (after_bytes answer (take given_before input) (opened a)).printed))
 
   -- a line ended the trace
-  pub out_ended : (end : E) (result : Ended E) (put last : List ℕ) (place : ℕ) (c0 c1 c2 : Option (List ℕ)) (fault : Type 0)
+  pub out_ended : (end : E) (result : Ended E) (put last : List ℕ) (place : ℕ) (c0 c1 c2 : Held) (fault : Type 0)
       → finished answer closing (after_bytes answer input (opened a)) ≡ record { text = put ++ last; end = end } → now.faults ≡ start.faults
-      → IsAsked A E answer a input put given_before place → Appends c0 c1 put
+      → IsAsked A E answer a input put given_before place → Grows c0 c1 put
       → Said (statuses.By end) result c1 c2 last fault → Outcome run_here result c0 c2
   out_ended end result put last place c0 c1 c2 fault is well asked shown said =
       said_out A E run_here (statuses.By end) result put last c0 c1 c2 fault shown (held put place asked)
@@ -370,11 +369,11 @@ module _ (A E : Type 0) (answer : ℕ → A → List ℕ → Answer A E) (closin
       (λ all. ended_out A E run_here end (put ++ last) c0 c2 is well all) said
 
   -- memory ran out after some lines
-  pub out_memory : (result : Ended E) (put last text : List ℕ) (place : ℕ) (c0 c1 c2 : Option (List ℕ)) (fault : Type 0)
+  pub out_memory : (result : Ended E) (put last text : List ℕ) (place : ℕ) (c0 c1 c2 : Held) (fault : Type 0)
       → (after_bytes answer (take place input) (opened a)).printed ≡ put ++ text
       → (after_bytes answer (take place input) (opened a)).end ≡ None → place ≤ given_now
       → last ≡ text ++ memory_fault_text → now.faults ≡ start.faults
-      → IsAsked A E answer a input put given_before place → Appends c0 c1 put
+      → IsAsked A E answer a input put given_before place → Grows c0 c1 put
       → Said statuses.NoMemory result c1 c2 last fault → Outcome run_here result c0 c2
   out_memory result put last text place c0 c1 c2 fault is going within parts well asked shown said =
       let memory : IsMemoryFault run_here (put ++ last) = (
@@ -389,9 +388,9 @@ module _ (A E : Type 0) (answer : ℕ → A → List ℕ → Answer A E) (closin
       (inr (inr memory)) (λ all. (put ++ last, memory, all)) said
 
   -- the source failed
-  pub out_source : (result : Ended E) (put : List ℕ) (place : ℕ) (c0 c1 c2 : Option (List ℕ)) (fault : Type 0)
+  pub out_source : (result : Ended E) (put : List ℕ) (place : ℕ) (c0 c1 c2 : Held) (fault : Type 0)
       → (after_bytes answer (take given_now input) (opened a)).printed ≡ put → (after_bytes answer (take given_now input) (opened a)).end ≡ None
-      → Rose start.faults now.faults → IsAsked A E answer a input put given_before place → Appends c0 c1 put
+      → Rose start.faults now.faults → IsAsked A E answer a input put given_before place → Grows c0 c1 put
       → Said statuses.SourceFault result c1 c2 source_fault_text fault → Outcome run_here result c0 c2
   out_source result put place c0 c1 c2 fault is going rose asked shown said =
       let source : IsSourceFault run_here (put ++ source_fault_text) =
@@ -400,20 +399,20 @@ module _ (A E : Type 0) (answer : ℕ → A → List ℕ → Answer A E) (closin
       (held put place asked) (inr (inl source)) (λ all. (put ++ source_fault_text, source, all)) said
 
   -- the sink failed
-  pub out_sink : (put last more : List ℕ) (place : ℕ) (c0 c1 c2 : Option (List ℕ)) → (finished answer closing (after_bytes answer input (opened a))).text
-      ≡ put ++ (last ++ more) → now.faults ≡ start.faults → IsAsked A E answer a input put given_before place → Appends c0 c1 put
-      → (cut : List ℕ) × Begins cut last × Appends c1 c2 cut → Outcome run_here statuses.SinkFault c0 c2
+  pub out_sink : (put last more : List ℕ) (place : ℕ) (c0 c1 c2 : Held) → (finished answer closing (after_bytes answer input (opened a))).text
+      ≡ put ++ (last ++ more) → now.faults ≡ start.faults → IsAsked A E answer a input put given_before place → Grows c0 c1 put
+      → (cut : List ℕ) × Begins cut last × Grows c1 c2 cut → Outcome run_here statuses.SinkFault c0 c2
   out_sink put last more place c0 c1 c2 is well asked shown cut =
       cut_off A E run_here put last more
       (finished answer closing (after_bytes answer input (opened a))).text c0 c1 c2 shown (held put place asked) (inl (refl, well)) is cut
 
 -- what a status says of the faults
-pub said-source : {E : Type 0} (status result : Ended E) (c1 c2 : Option (List ℕ)) (text : List ℕ) (shown : Type 0) → (status ≡ statuses.SourceFault → ⊥)
+pub said-source : {E : Type 0} (status result : Ended E) (c1 c2 : Held) (text : List ℕ) (shown : Type 0) → (status ≡ statuses.SourceFault → ⊥)
     → Said status result c1 c2 text shown → result ≡ statuses.SourceFault → ⊥
 said-source status result c1 c2 text shown other (inl said) is = other (sym said.0 ∙ is)
 said-source status result c1 c2 text shown other (inr cut) is = let e : statuses.SinkFault ≡ statuses.SourceFault = sym cut.0 ∙ is in cc
 
-pub said-sink : {E : Type 0} (status result : Ended E) (c1 c2 : Option (List ℕ)) (text : List ℕ) (shown : Type 0) → (status ≡ statuses.SinkFault → ⊥)
+pub said-sink : {E : Type 0} (status result : Ended E) (c1 c2 : Held) (text : List ℕ) (shown : Type 0) → (status ≡ statuses.SinkFault → ⊥)
     → Said status result c1 c2 text shown → result ≡ statuses.SinkFault → shown
 said-sink status result c1 c2 text shown other (inl said) is = absurd (other (sym said.0 ∙ is))
 said-sink status result c1 c2 text shown other (inr cut) is = cut.1

@@ -1,47 +1,9 @@
 -- What a sink holds after several puts.
-use Rattle.std.proofs.Common.{
-  ◌≡◌,
-  ℕ,
-  zero,
-  suc,
-  ◌+◌,
-  ◌-◌,
-  ◌<◌,
-  ◌≤◌,
-  List,
-  [],
-  ◌∷◌,
-  ◌++◌,
-  Result,
-  Ok,
-  Err,
-  OnErr,
-  Option,
-  Some,
-  None,
-  length,
-  take,
-  drop,
-  get_or,
-  sym,
-  ap,
-  ◌∙◌,
-  arith,
-  append_assoc,
-  length-drop,
-}
-use Rattle.std.specs.Io.KnownBytes.{Appends, Keeps}
+use Rattle.std.proofs.Common.{◌≡◌, ℕ, zero, suc, ◌+◌, ◌-◌, ◌<◌, ◌≤◌, List, [], ◌∷◌, ◌++◌, Result, Ok, Err, OnErr, length, take, drop, get_or, sym, ap, ◌∙◌, arith, append_assoc, length-drop}
 use Rattle.std.specs.List.{flat_map}
 use Rattle.std.proofs.Math.Seq.{take-add}
 use Rattle.std.proofs.lemmas.List.{take_all}
 use Rattle.trace_loop.specs.Outcome.{Begins}
-
--- what is kept was appended
-pub Appends-kept : (a b c : Option (List ℕ)) (bs : List ℕ) → Appends a b bs → Keeps b c → Appends a c bs
-Appends-kept None b c bs p q = tt
-Appends-kept (Some x) None c bs p q = absurd p
-Appends-kept (Some x) (Some y) None bs p q = absurd q
-Appends-kept (Some x) (Some y) (Some z) bs p q = q ∙ p
 
 -- a text up to a place, and a piece from there
 pub take_piece : (text : List ℕ) (i n : ℕ) → i + n ≤ length text → take i text ++ take n (take (length text - i) (drop i text)) ≡ take (i + n) text

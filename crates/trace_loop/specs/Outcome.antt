@@ -1,8 +1,7 @@
 -- What a run over lines has written when it ends.
-use Rattle.std.specs.Prelude.{◌≡◌, ◌≢◌, ℕ, ◌-◌, ◌≤◌, false, List, ◌++◌, take, Option, Some, None, ◌⊎◌}
+use Rattle.std.specs.Prelude.{◌≡◌, ◌≢◌, ℕ, ◌-◌, ◌≤◌, false, List, ◌++◌, take, None, ◌⊎◌}
 use Rattle.std.specs.Prelude.{Result, OnOk, OnErr}
-use Rattle.std.specs.Io.KnownBytes.{Appends}
-use Rattle.board_io.specs.Ends.{Input, Output}
+use Rattle.board_io.specs.Ends.{Grows, Input, Output, Gave, Gives, Held}
 use Rattle.board_io.specs.Faults.{Rose}
 use Rattle.trace_loop.specs.Text.{source_fault_text, memory_fault_text}
 use Rattle.trace_loop.specs.Progress.{Closing, Answer, Progress, opened, after_bytes, finished}
@@ -64,12 +63,12 @@ IsCutOff w cut =
     × Begins cut text)
 
 -- what a run that ended so has appended to the sink
-abbrev pub Outcome : {A E : Type 0} → Run A E → Ended E → Option (List ℕ) → Option (List ℕ) → Type 0
+abbrev pub Outcome : {A E : Type 0} → Run A E → Ended E → Held → Held → Type 0
 Outcome w (By end) old new =
-    (end ≡ w.whole.end) × ((text : List ℕ) × IsText w text × Appends old new text)
-Outcome w SourceFault old new = (text : List ℕ) × IsSourceFault w text × Appends old new text
-Outcome w NoMemory old new = (text : List ℕ) × IsMemoryFault w text × Appends old new text
-Outcome w SinkFault old new = (cut : List ℕ) × IsCutOff w cut × Appends old new cut
+    (end ≡ w.whole.end) × ((text : List ℕ) × IsText w text × Grows old new text)
+Outcome w SourceFault old new = (text : List ℕ) × IsSourceFault w text × Grows old new text
+Outcome w NoMemory old new = (text : List ℕ) × IsMemoryFault w text × Grows old new text
+Outcome w SinkFault old new = (cut : List ℕ) × IsCutOff w cut × Grows old new cut
 
 -- what a call leaves of its sink that answers `fault` where the sink failed: otherwise it has no fault
 -- more, and took each call; and it isn't called again after a call that failed
@@ -88,15 +87,16 @@ pub record KeepsEnds {R : Type 0} (no_source no_sink result : R) (start end : In
   pub sink_fault : result ≡ no_sink → Rose before.faults after.faults
   pub sink : KeepsSink no_sink result before after
 
--- what a run over lines leaves of its source and its sink, by how they were before it: what is
--- written; that the trace had not ended before the source was called last; and whose fault it is that
--- it ends in a fault
+-- what a run over lines leaves of its source and its sink, by how they were before it: for each input
+-- that the source may have had, what is written, and that the trace had not ended before the source was
+-- called last; an input that was known before is one of them; and whose fault it is that it ends in a fault
 pub record Leaves {A E : Type 0} (answer : ℕ → A → List ℕ → Answer A E)
     (closing : ℕ → A → Closing E) (a : A) (start end : Input) (before after : Output)
     (ended : Ended E) : Type 0 where
-  pub outcome : (input : List ℕ) → start.remaining ≡ Some input
+  pub gives : Gives start end
+  pub outcome : (input : List ℕ) → Gave start end input
       → Outcome (run_over answer closing a input start end) ended before.contents after.contents
-  pub stopped : (input : List ℕ) → start.remaining ≡ Some input
+  pub stopped : (input : List ℕ) → Gave start end input
       → (after_bytes answer (take (end.before - start.given) input) (opened a)).end ≡ None
   pub ends : KeepsEnds SourceFault SinkFault ended start end before after
 
@@ -104,9 +104,9 @@ pub record Leaves {A E : Type 0} (answer : ℕ → A → List ℕ → Answer A E
 -- failed; faults are counted, and it isn't called again after a call that failed
 pub record IsPutAll {T E : Type 0} (before after : Output) (text : List ℕ) (result : Result T E)
     : Type 0 where
-  pub all : OnOk result (Appends before.contents after.contents text)
+  pub all : OnOk result (Grows before.contents after.contents text)
   pub cut : OnErr result ((cut : List ℕ) × Begins cut text
-      × Appends before.contents after.contents cut)
+      × Grows before.contents after.contents cut)
   pub well : OnOk result (after.faults ≡ before.faults)
   pub quiet : OnOk result (after.done ≡ before.done)
   pub once : before.done ≡ false → before.late ≡ false → after.late ≡ false
@@ -115,14 +115,14 @@ pub record IsPutAll {T E : Type 0} (before after : Output) (text : List ℕ) (re
 
 -- the whole text was written, and this is the answer; or the sink failed, which showed, and took
 -- a prefix of it
-abbrev pub SaidOr : {R : Type 0} → R → R → R → Option (List ℕ) → Option (List ℕ) → List ℕ → Type 0
+abbrev pub SaidOr : {R : Type 0} → R → R → R → Held → Held → List ℕ → Type 0
     → Type 0
 SaidOr fault end result old new text shown =
-    ((result ≡ end) × Appends old new text)
-    ⊎ ((result ≡ fault) × shown × ((cut : List ℕ) × Begins cut text × Appends old new cut))
+    ((result ≡ end) × Grows old new text)
+    ⊎ ((result ≡ fault) × shown × ((cut : List ℕ) × Begins cut text × Grows old new cut))
 
 -- the same of the end of a run
-abbrev pub Said : {E : Type 0} → Ended E → Ended E → Option (List ℕ) → Option (List ℕ) → List ℕ
+abbrev pub Said : {E : Type 0} → Ended E → Ended E → Held → Held → List ℕ
     → Type 0 → Type 0
 Said end result old new text shown = SaidOr SinkFault end result old new text shown
 

@@ -27,7 +27,7 @@ ghost use Rattle.std.specs.Prelude.{map};
 ghost use lib.Lanes.{mask_l};
 ghost use Rattle.memchr.specs.Find.{is_byte};
 ghost use Rattle.std.specs.Io.KnownBytes.{Consumes, IsAtEnd};
-ghost use Rattle.board_io.specs.Faults.{Rose, most_given, AddsGiven, gave_nothing};
+ghost use Rattle.board_io.specs.Faults.{Rose, most_given, AddsGiven, gave_nothing, CountsEnds};
 ghost use Rattle.trace_loop.specs.Progress.{limit_of};
 ghost use Rattle.trace_loop.specs.Cut.{HasNoEnd};
 ghost use Rattle.trace_loop.specs.Found.{IsFound};
@@ -316,6 +316,9 @@ impl Lines {
         ensures bytes { OnOk result
             (Consumes (S.input source.old).remaining (S.input source.new).remaining self.new.left) }
         ensures end { IfOk result (λ n. n ≡ 0 → IsAtEnd (S.input source.new).remaining) }
+        ensures read { OnOk result ((S.input source.new).read ≡ (S.input source.old).read ++ self.new.left) }
+        ensures kept { OnErr result ((S.input source.new).read ≡ (S.input source.old).read) }
+        ensures ends { CountsEnds (S.input source.old).ends (S.input source.new).ends result }
         ensures well { OnOk result ((S.input source.new).faults ≡ (S.input source.old).faults) }
         ensures failed { OnErr result (Rose (S.input source.old).faults (S.input source.new).faults) }
         ensures text { self.new.text ≡ self.old.text }

@@ -1,7 +1,7 @@
 -- Lemmas on soaks.
-use Rattle.std.proofs.Common.{◌≡◌, ℕ, List, [], ◌++◌, length, take, drop, Option, Some, None, inl, inr, refl, ap, subst, ◌∙◌}
+use Rattle.std.proofs.Common.{◌≡◌, ℕ, List, [], ◌++◌, length, take, drop, Some, None, inl, inr, refl, ap, subst, ◌∙◌}
 use Rattle.std.proofs.Math.Seq.{take-append_seam, drop-append_seam}
-use Rattle.std.specs.Io.KnownBytes.{Appends}
+use Rattle.board_io.specs.Ends.{Grows, Held}
 use Rattle.board_io.specs.Faults.{Rose}
 use Rattle.board_core.specs.Time.{now_of}
 use Rattle.reply_text.specs.Soak.{soak_text}
@@ -54,17 +54,17 @@ pub quiet-after : (bytes : List ℕ) (s : Progress Soak Verdict) → IsQuiet s �
 quiet-after bytes s quiet = stays soak_answer IsQuiet quiet-answered (λ b p none same. same) bytes s quiet
 
 -- what a run has left that printed nothing before its end, over a source that has no fault
-pub soaked_is : (w : Run Soak Verdict) (e : Ended Verdict) (old new : Option (List ℕ)) (shown : Type 0)
+pub soaked_is : (w : Run Soak Verdict) (e : Ended Verdict) (old new : Held) (shown : Type 0)
     → ((k : ℕ) → IsQuiet (w.at k))
     → (Rose w.start.faults w.end.faults → ⊥)
     → (e ≡ FailsSink → shown)
     → Outcome w e old new
     → Soaked w.whole (status_of e) old new shown
 soaked_is w (By v) old new shown quiet calm failed o =
-    inl (inl (ap verdict_status o.0, subst (λ (t : List ℕ). Appends old new t) o.1.1.0 o.1.2))
+    inl (inl (ap verdict_status o.0, subst (λ (t : List ℕ). Grows old new t) o.1.1.0 o.1.2))
 soaked_is w FailsSource old new shown quiet calm failed o = absurd (calm o.1.2)
 soaked_is w WantsMemory old new shown quiet calm failed o =
-    inr (inl (refl, subst (λ (t : List ℕ). Appends old new t) (o.1.1 ∙ ap (λ (l : List ℕ). l ++ memory_fault_text) (quiet o.1.0 o.1.4)) o.2))
+    inr (inl (refl, subst (λ (t : List ℕ). Grows old new t) (o.1.1 ∙ ap (λ (l : List ℕ). l ++ memory_fault_text) (quiet o.1.0 o.1.4)) o.2))
 soaked_is w FailsSink old new shown quiet calm failed o = elim o.1.1.1 [
   | inl whole ↦ inl (inr (refl, failed refl, (o.0, subst (λ (t : List ℕ). Begins o.0 t) whole.0 o.1.1.2, o.2)))
   | inr fault ↦ elim fault [

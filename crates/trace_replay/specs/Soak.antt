@@ -1,5 +1,6 @@
 -- A soak: a generated trace is replayed, and what is printed is a sum.
 use Rattle.std.specs.List.{filter, slice_split}
+use Rattle.board_io.specs.Ends.{Held}
 use Rattle.std.specs.Prelude.{
   ℕ,
   ◌+◌,
@@ -12,7 +13,6 @@ use Rattle.std.specs.Prelude.{
   length,
   take,
   codes,
-  Option,
 }
 use Rattle.std.specs.Str.{bytes_eq}
 use Rattle.board_core.specs.Time.{now_of}
@@ -71,7 +71,7 @@ soak_of size =
     (opened (record { replay = at_start false; records = size.records; edges = 0 })))
 
 -- what a soak leaves: all of that, with its status; or memory ran out, and only that is printed
-abbrev pub Soaked : Closing Verdict → Status → Option (List ℕ) → Option (List ℕ) → Type 0 → Type 0
+abbrev pub Soaked : Closing Verdict → Status → Held → Held → Type 0 → Type 0
 Soaked closing result old new shown =
     SaidAtMost (verdict_status closing.end) result old new closing.text shown
 

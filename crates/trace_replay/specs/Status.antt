@@ -1,6 +1,6 @@
 -- The statuses: their numbers, and what a replay that ended with one has written.
-use Rattle.std.specs.Prelude.{◌≡◌, ℕ, List, Option, ◌⊎◌}
-use Rattle.std.specs.Io.KnownBytes.{Appends}
+use Rattle.std.specs.Prelude.{◌≡◌, ℕ, ◌⊎◌}
+use Rattle.board_io.specs.Ends.{Grows, Held}
 use Rattle.trace_loop.specs.declared.ended.Ended.{Ended}
 use Rattle.trace_loop.specs.declared.ended.Ended.TheVariants.{
   By,
@@ -29,6 +29,7 @@ use Rattle.trace_replay.specs.declared.status.Status.TheVariants.{
   OutOfRange,
   Spent,
   VersionsSpent,
+  ThreadFault,
 }
 
 -- the program's exit status
@@ -42,6 +43,7 @@ number_of NoMemory = 6
 number_of (OutOfRange line ns) = 7
 number_of (Spent line number) = 8
 number_of (VersionsSpent line version) = 9
+number_of ThreadFault = 10
 
 -- how a trace ended, as a status
 abbrev pub verdict_status : Verdict → Status
@@ -59,7 +61,7 @@ status_of FailsSink = SinkFault
 status_of WantsMemory = NoMemory
 
 -- what a run left that came to no end: a fault of the source or the sink, or want of memory
-abbrev pub Fails : {A E : Type 0} → Run A E → Status → Option (List ℕ) → Option (List ℕ) → Type 0
+abbrev pub Fails : {A E : Type 0} → Run A E → Status → Held → Held → Type 0
 Fails w SourceFault old new = Outcome w FailsSource old new
 Fails w SinkFault old new = Outcome w FailsSink old new
 Fails w NoMemory old new = Outcome w WantsMemory old new
@@ -67,8 +69,8 @@ Fails w status old new = ⊥
 
 -- what a replay left, by its status: that is the trace's end, and all that it prints was appended to the
 -- sink; or it came to no end
-abbrev pub Shown : Run Replay Verdict → Status → Option (List ℕ) → Option (List ℕ) → Type 0
+abbrev pub Shown : Run Replay Verdict → Status → Held → Held → Type 0
 Shown w status old new =
     ((w.end.faults ≡ w.start.faults) × (status ≡ verdict_status w.whole.end)
-    × Appends old new w.whole.text)
+    × Grows old new w.whole.text)
     ⊎ Fails w status old new

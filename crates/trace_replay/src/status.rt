@@ -49,6 +49,8 @@ pub enum Status {
     Spent { line: u64, number: u64 },
     /// That line would publish again a page, or the wall clock's words, whose version is the last one.
     VersionsSpent { line: u64, version: u64 },
+    /// What the threads of a race gave back doesn't fit together, so a thread or a lock of the host broke.
+    ThreadFault,
 }
 
 impl Status {
@@ -68,6 +70,7 @@ impl Status {
             Status::OutOfRange { .. } => 7,
             Status::Spent { .. } => 8,
             Status::VersionsSpent { .. } => 9,
+            Status::ThreadFault => 10,
         }
     }
 }

@@ -1,5 +1,6 @@
 -- What is said is the command's saying.
-use Rattle.std.proofs.Common.{◌≡◌, ℕ, List, Option, Some, Bool, sym, subst, ◌∙◌, inl, Result, Ok, IfOk}
+use Rattle.std.proofs.Common.{◌≡◌, ℕ, List, Some, Bool, sym, subst, ◌∙◌, inl, Result, Ok, IfOk}
+use Rattle.board_io.specs.Ends.{Held}
 use Rattle.clk_units.specs.declared.NoMemory.{NoMemory}
 use Rattle.command_line.specs.Command.{command_of}
 use Rattle.command_line.specs.declared.command.Command.{Command}
@@ -8,7 +9,7 @@ use Rattle.trace_runner.specs.Sayings.{Saying}
 use Rattle.trace_replay.specs.declared.status.Status.{Status}
 
 -- a text that is put whole, as the saying of its command
-pub said-whole : (s saying : Saying) (result : Status) (old new : Option (List ℕ)) (shown : Type 0) → Some s ≡ Some saying
+pub said-whole : (s saying : Saying) (result : Status) (old new : Held) (shown : Type 0) → Some s ≡ Some saying
     → Said s.status result old new s.text shown → SaidAtMost saying.status result old new saying.text shown
 said-whole s saying result old new shown is said =
     let same : s ≡ saying = cc in

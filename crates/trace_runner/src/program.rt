@@ -15,6 +15,7 @@ ghost use Rattle.std.specs.Prelude.{
   take,
 };
 ghost use Rattle.std.specs.String.{string_bytes};
+ghost use Rattle.board_io.specs.Ends.{Gave, Gives};
 ghost use Rattle.board_io.specs.Faults.{Rose};
 ghost use Rattle.command_line.specs.Command.{command_of, HasSize};
 ghost use Rattle.command_line.specs.declared.command.Command.TheVariants.{Replay as ReplayOf, Race as RaceOf};
@@ -52,7 +53,7 @@ use trace_replay::{Replay, Status, run_soak, status_of};
 /// after a put that failed.
 ///
 /// The job `race` reads and checks the whole trace, and writes nothing but the line that is refused. Each of its phases,
-/// which a save or a move ends, runs meanwhile on one thread a processor, which `rt` starts; `gate` is called around each
+/// which a save or a move ends, runs meanwhile on threads, at most one a processor, which `rt` starts; `gate` is called around each
 /// record. What the phases print is put when the check is through, each in the order of the processors: with one processor
 /// that is what the job `replay` prints.
 ///
@@ -68,6 +69,8 @@ use trace_replay::{Replay, Status, run_soak, status_of};
 /// - `SourceFault`, `SinkFault`: only where that end counted a fault in this call. What was written is then the blocks
 ///   of all whole lines given and `fault source`, or a prefix of what would be printed.
 /// - `NoMemory`: memory ran out; what was written is a prefix of what would be printed, and `fault memory`.
+/// - `ThreadFault`: what the threads of a race gave back doesn't fit together, as no working host brings about;
+///   `fault thread` was written.
 #[tactic(auto, using(trace_replay::proofs::WholeLines::progress_whole, crate::proofs::CheckQuiet::silent_going))]
 pub fn run<R: Threads + Wait + Sync, S: Source, K: Sink, G: Gate + Sync>(
     rt: &R,
@@ -80,7 +83,7 @@ pub fn run<R: Threads + Wait + Sync, S: Source, K: Sink, G: Gate + Sync>(
     // a trace that is replayed; or memory ran out as the words were read, and nothing was taken
     ensures replay { (shows_state : Bool)
         → command_of (map string_bytes words.now) ≡ ReplayOf shows_state
-        → (input : List ℕ) → (S.input source.old).remaining ≡ Some input
+        → (input : List ℕ) → Gave (S.input source.old) (S.input source.new) input
         → Shown (replay_run shows_state input (S.input source.old)
         (S.input source.new))
         result (K.output sink.old).contents (K.output sink.new).contents
@@ -89,7 +92,7 @@ pub fn run<R: Threads + Wait + Sync, S: Source, K: Sink, G: Gate + Sync>(
         × (source.new ≡ source.old)) }
     ensures stopped { (shows_state : Bool)
         → command_of (map string_bytes words.now) ≡ ReplayOf shows_state
-        → (input : List ℕ) → (S.input source.old).remaining ≡ Some input
+        → (input : List ℕ) → Gave (S.input source.old) (S.input source.new) input
         → ((progress_after shows_state
         (take ((S.input source.new).before - (S.input source.old).given) input)).end ≡ None)
         ⊎ (source.new ≡ source.old) }
@@ -98,7 +101,7 @@ pub fn run<R: Threads + Wait + Sync, S: Source, K: Sink, G: Gate + Sync>(
     // a trace whose processors run on threads of their own
     ensures race { (shows_state : Bool)
         → command_of (map string_bytes words.now) ≡ RaceOf shows_state
-        → (input : List ℕ) → (S.input source.old).remaining ≡ Some input
+        → (input : List ℕ) → Gave (S.input source.old) (S.input source.new) input
         → RaceLeaves (check_run shows_state input (S.input source.old)
         (S.input source.new))
         result (K.output sink.old).contents (K.output sink.new).contents
@@ -108,14 +111,14 @@ pub fn run<R: Threads + Wait + Sync, S: Source, K: Sink, G: Gate + Sync>(
         × (source.new ≡ source.old)) }
     ensures race_stopped { (shows_state : Bool)
         → command_of (map string_bytes words.now) ≡ RaceOf shows_state
-        → (input : List ℕ) → (S.input source.old).remaining ≡ Some input
+        → (input : List ℕ) → Gave (S.input source.old) (S.input source.new) input
         → ((check_after shows_state
         (take ((S.input source.new).before - (S.input source.old).given) input)).end ≡ None)
         ⊎ (source.new ≡ source.old) }
     // .. which prints what its replay prints where it has one processor, and no line is refused
     ensures race_alone { (shows_state : Bool)
         → command_of (map string_bytes words.now) ≡ RaceOf shows_state
-        → (input : List ℕ) → (S.input source.old).remaining ≡ Some input
+        → (input : List ℕ) → Gave (S.input source.old) (S.input source.new) input
         → (trace : TraceRead) → (check shows_state input).end ≡ Whole trace
         → trace.opening.cpus ≡ 1
         → AloneLeaves (check_run shows_state input (S.input source.old)
@@ -138,6 +141,8 @@ pub fn run<R: Threads + Wait + Sync, S: Source, K: Sink, G: Gate + Sync>(
         saying.text (Rose (K.output sink.old).faults (K.output sink.new).faults) }
     ensures untouched { reads_trace (command_of (map string_bytes words.now)) ≡ false
         → source.new ≡ source.old }
+    // what the source gave, and that an input that was known before is one that it can have had
+    ensures gives { Gives (S.input source.old) (S.input source.new) }
     // the faults of both ends
     ensures well { result ≢ Status.SourceFault → result ≢ Status.SinkFault
         → (S.input source.new).faults ≡ (S.input source.old).faults }

@@ -9,6 +9,7 @@ ghost use Rattle.trace_text.specs.State.{is_newer, place_in, in_format, restored
 ghost use Rattle.trace_text.specs.private.State.{restored_digits};
 
 use board_core::BoardState;
+use byte_table::two_at;
 use reply_text::Reason;
 use save_state::{StateFault, decode};
 use trace_loop::STATE_LINE_MAX;
@@ -97,10 +98,8 @@ fn is_newer(bytes: &[u8], format: u8) -> bool
 }
 
 /// The version of a saved state, its lower byte first.
-#[tactic(auto, unfolding(byte_table::specs::Codes::number_at))]
 fn version_of(bytes: &[u8]) -> u16
-    requires { 10 ≤ length bytes.now }
     ensures { result ≡ format_in bytes.now }
 {
-    u16::from(bytes[8]) + 256 * u16::from(bytes[9])
+    two_at(bytes, VERSION as usize)
 }

@@ -14,7 +14,6 @@ use Rattle.std.specs.Prelude.{
   ◌++◌,
   length,
   take,
-  map,
   All,
   Some,
   Result,
@@ -22,7 +21,6 @@ use Rattle.std.specs.Prelude.{
   OnOk,
   OnErr,
 }
-use Rattle.std.specs.List.{filter_map}
 use Rattle.trace_blocks.specs.declared.deliveries.Deliveries.{Deliveries}
 use Rattle.board_types.specs.declared.parts.BoardParts.{BoardParts}
 use Rattle.board_types.specs.declared.reply.Refusal.{Refusal}
@@ -32,7 +30,7 @@ use Rattle.board_history.specs.History.{board_after, IsLegal}
 use Rattle.board_history.specs.declared.entry.Entry.{Entry}
 use Rattle.clock_table.specs.declared.view.Miss.{Miss}
 use Rattle.shared_board.specs.declared.known.PassKnown.{PassKnown}
-use Rattle.shared_board.specs.Passes.{mine, Made, Unanswered, IsUpdate}
+use Rattle.shared_board.specs.Passes.{mine, Made, Unanswered}
 use Rattle.shared_board.specs.Faults.{page_reads}
 use Rattle.trace_blocks.specs.declared.records.Answer.{Answer}
 use Rattle.trace_records.specs.declared.Call.{Call}
@@ -40,20 +38,18 @@ use Rattle.trace_records.specs.declared.Call.TheVariants.{Act, ReadPage, ReadClo
 use Rattle.trace_blocks.specs.declared.records.Record.{Record}
 use Rattle.race_phase.specs.declared.batch.Place.{Place}
 use Rattle.trace_blocks.specs.Blocks.{block_of}
-use Rattle.race_phase.specs.Calls.{IsFitting, records_of, CallMade, AllMade, locked_page}
+use Rattle.race_phase.specs.Calls.{IsFitting, records_of, CallMade, AllMade, AllTried}
 use Rattle.race_phase.specs.private.Told.{answer_with}
 
--- the reads under the lock among these entries have these misses, one each, in order
-abbrev pub AllTried : ℕ → List Entry → List Miss → Type 0
-AllTried cpus es ms =
-    (map (λ (m : Miss). m.page) ms ≡ filter_map (locked_page cpus) es)
-    × All (λ (m : Miss). IsUpdate m.first m.second) ms
+-- a pass has missed before each read under the lock that it has made
+abbrev pub HasTried : ℕ → PassKnown → Type 0
+HasTried cpus p = AllTried cpus p.number p.seen [] (mine p) p.misses
 
 -- a pass answered a record
 abbrev pub IsMade : BoardParts → Record → Answer → PassKnown → PassKnown → Type 0
 IsMade s r a p q =
     (es : List Entry) × CallMade s p.number r.cpu r.h r.call a es × Made p q es
-    × (ms : List Miss) × AllTried s.cpus es ms × (q.misses ≡ p.misses ++ ms)
+    × (ms : List Miss) × AllTried s.cpus p.number p.seen (mine p) es ms × (q.misses ≡ p.misses ++ ms)
 
 -- why a record was not answered: the board refused the access; or the count of a read has no time,
 -- or so many pages were read that the front word leaves no room
@@ -88,7 +84,7 @@ abbrev pub HasWorked :
     BoardParts → Deliveries → List Record → ℕ → PassKnown → List ℕ → Type 0
 HasWorked s ds rs n p out =
     (p.number ≡ n)
-    × ((AllMade s ds n (records_of n rs) out (mine p) × AllTried s.cpus (mine p) p.misses)
+    × ((AllMade s ds n (records_of n rs) out (mine p) × HasTried s.cpus p)
     ⊎ HasStopped s ds n (records_of n rs) p)
 
 -- the block of a record, by its place
@@ -109,7 +105,7 @@ pub record AllAnswered (s : BoardParts) (rs : List Record) (ts : List Place) (p 
   pub made : (ds : Deliveries) (done : List Record) (out : List ℕ)
       → AllMade s ds p.number done out (mine p)
       → AllMade s ds p.number (done ++ rs) (out ++ places_text ds rs ts) (mine q)
-  pub tried : AllTried s.cpus (mine p) p.misses → AllTried s.cpus (mine q) q.misses
+  pub tried : HasTried s.cpus p → HasTried s.cpus q
 
 -- a pass has answered these records, and their blocks were appended to a text
 abbrev pub HasPrinted : BoardParts → Deliveries → List Record → List ℕ → List ℕ
@@ -156,7 +152,7 @@ pub record AllButLast (s : BoardParts) (ds : Deliveries) (n : ℕ) (rs : List Re
   pub done : List Record
   pub whole : rs ≡ done ++ waiting
   pub made : AllMade s ds n done text (mine p)
-  pub tried : AllTried s.cpus (mine p) p.misses
+  pub tried : HasTried s.cpus p
 
 -- the passes from n on, and what they answered, one after another
 abbrev pub AllWorked : BoardParts → Deliveries → List Record → ℕ → List PassKnown

@@ -1,6 +1,6 @@
-//! The job `race` at a gate: its workers hold no lock as they read, neither one of their own nor one that they kept.
+//! The job `race` at a gate: its workers answer readings while another has the lock, and keep no lock of their own for them.
 
-use super::strings;
+use super::{strings, text_of};
 use crate::checks::same;
 use board_io::{Gate, MemSink, MemSource, OpenGate};
 use std::alloc::{AllocError, Global};
@@ -9,47 +9,83 @@ use std::sync::Wait;
 use std::sync::atomic::{AtomicU64, Ordering};
 use std::test::Fail;
 use std::thread::Threads;
+use std::time::Duration;
 use trace_runner::{Status, run};
 
-/// The program's own gate, which also makes an access of processor 0 and a read of processor 1 meet. The access waits until
-/// the worker stands before the read; the read waits until the access has the lock; and the access gives the lock back only
-/// when the read was answered. So a wait comes to its limit where the worker has a lock before its read, since the access
-/// doesn't get it then, and where the read takes the lock.
+/// How many processors the board has: one is the holder, and the others are readers.
+const CPUS: u8 = 3;
+
+const READERS: u64 = 2;
+
+/// How many accesses one reader makes before its readings, under one lock where it has many records.
+const ACCESSES: u64 = 2;
+
+/// How many naps of a millisecond a wait takes at most: none at the gate is without an end.
+const MOST_NAPS: u64 = 10_000;
+
+/// The lock of the holder's access: it has it, and has given it back.
+const HELD: u64 = 1;
+
+const GIVEN_BACK: u64 = 2;
+
+/// The program's own gate, which also makes an access of the holder meet all readings. The access waits until each reader
+/// stands before its first reading. There the readers wait until the access has the lock, and it gives the lock back only
+/// when all readings were answered. So a wait comes to its limit, and a reading isn't counted, where a worker has a lock
+/// before a reading, or takes one in it or before the next.
 #[derive(Drop)]
 struct Meeting {
     open: OpenGate,
-    /// Which record of processor 1 is the read.
-    read: u64,
-    at_read: AtomicU64,
-    insides: AtomicU64,
+    holder: u8,
+    /// How many readings there are.
+    readings: u64,
+    standing: AtomicU64,
+    lock: AtomicU64,
+    /// How many readings were answered while the holder had the lock.
     answered: AtomicU64,
     befores: AtomicU64,
     afters: AtomicU64,
-    missed: AtomicU64,
+    insides: AtomicU64,
 }
 
 impl Meeting {
-    fn new(read: u64) -> Meeting {
+    fn new(holder: u8, readings: u64) -> Meeting {
         Meeting {
             open: OpenGate,
-            read,
-            at_read: AtomicU64::new(0),
-            insides: AtomicU64::new(0),
+            holder,
+            readings,
+            standing: AtomicU64::new(0),
+            lock: AtomicU64::new(0),
             answered: AtomicU64::new(0),
             befores: AtomicU64::new(0),
             afters: AtomicU64::new(0),
-            missed: AtomicU64::new(0),
+            insides: AtomicU64::new(0),
         }
     }
 
-    /// Waits until a count is there, a thousand million turns at most.
-    fn wait(&self, word: &AtomicU64, least: u64) {
-        for _ in 0..1_000_000_000u64 {
-            if word.load(Ordering::SeqCst) >= least {
-                return;
-            }
+    /// The place of a reader's first reading among its records.
+    fn first_reading(&self, cpu: u8) -> u64 {
+        if cpu == first_reader(self.holder) {
+            ACCESSES
+        } else {
+            0
         }
-        self.missed.fetch_add(1, Ordering::SeqCst);
+    }
+}
+
+/// The reader that makes accesses first, where this is the holder.
+fn first_reader(holder: u8) -> u8 {
+    if holder == 0 { 1 } else { 0 }
+}
+
+/// Waits until a count is there, or the wait comes to its limit.
+fn wait<R: Wait>(rt: &R, word: &AtomicU64, least: u64) {
+    for _ in 0..MOST_NAPS {
+        let count = word.load(Ordering::SeqCst);
+        if count >= least {
+            return;
+        }
+        let low = (count & 0xffff_ffff) as u32;
+        word.park_timeout(rt, low, Duration::from_millis(1));
     }
 }
 
@@ -57,17 +93,17 @@ impl Gate for Meeting {
     fn before<R: Wait>(&self, rt: &R, cpu: u8, index: u64) {
         self.open.before(rt, cpu, index);
         self.befores.fetch_add(1, Ordering::SeqCst);
-        if cpu == 0 && index == 0 {
-            self.wait(&self.at_read, 1);
-        }
-        if cpu == 1 && index == self.read {
-            self.at_read.fetch_add(1, Ordering::SeqCst);
-            self.wait(&self.insides, 1);
+        if cpu == self.holder {
+            wait(rt, &self.standing, READERS);
+        } else if index == self.first_reading(cpu) {
+            self.standing.fetch_add(1, Ordering::SeqCst);
+            wait(rt, &self.lock, HELD);
         }
     }
 
     fn after<R: Wait>(&self, rt: &R, cpu: u8, index: u64) {
-        if cpu == 1 && index == self.read {
+        let is_reading = cpu != self.holder && index >= self.first_reading(cpu);
+        if is_reading && self.lock.load(Ordering::SeqCst) == HELD {
             self.answered.fetch_add(1, Ordering::SeqCst);
         }
         self.afters.fetch_add(1, Ordering::SeqCst);
@@ -76,85 +112,244 @@ impl Gate for Meeting {
 
     fn inside<R: Wait>(&self, rt: &R, cpu: u8) {
         self.open.inside(rt, cpu);
-        if cpu == 0 {
-            self.insides.fetch_add(1, Ordering::SeqCst);
-            self.wait(&self.answered, 1);
+        self.insides.fetch_add(1, Ordering::SeqCst);
+        if cpu == self.holder {
+            self.lock.store(HELD, Ordering::SeqCst);
+            wait(rt, &self.answered, self.readings);
+            self.lock.store(GIVEN_BACK, Ordering::SeqCst);
         }
     }
 }
 
-/// Runs a race at the gate of a meeting: what it prints. Each record goes through the gate once, and no wait comes to its
-/// limit. `row` names the read.
-fn met<R: Threads + Wait + Sync + Abort + Alloc<A = Global>>(
-    rt: &R,
-    row: &str,
-    read: u64,
-    records: u64,
-    trace: &[u8],
-) -> Result<Vec<u8>, AllocError> {
-    let alloc = rt.alloc();
-    let gate = Meeting::new(read);
-    let words = strings(alloc, &["race"])?;
-    let mut source = MemSource::new(Vec::from_slice(alloc, trace)?, Vec::new(alloc), 4096);
-    let mut sink = MemSink::new(alloc, Vec::new(alloc), 4096);
-    let status = run(rt, alloc, &words, &mut source, &mut sink, &gate);
-    same(rt, row, status, Status::Ok);
-    same(rt, (row, "missed"), gate.missed.load(Ordering::SeqCst), 0);
-    same(
-        rt,
-        (row, "before"),
-        gate.befores.load(Ordering::SeqCst),
-        records,
-    );
-    same(
-        rt,
-        (row, "after"),
-        gate.afters.load(Ordering::SeqCst),
-        records,
-    );
-    Vec::from_slice(alloc, sink.bytes())
+/// A board with the page of each processor enabled, and the reference page where its format has one.
+#[derive(Clone, Copy)]
+struct Board {
+    format: u8,
+    /// The record that enables the reference page.
+    reference: &'static str,
+    /// How many accesses it took, and what its replay prints before the state.
+    accesses: u64,
+    told: &'static [u8],
 }
 
-/// The reads of a page that a trace can ask for: the record's words, and what is printed where the page is off.
-const READS: [(&str, &str); 3] = [
-    ("clock 0", "clock off"),
-    ("page 0", "page off"),
-    ("hv", "hv off"),
+const BOARDS: [Board; 2] = [
+    Board {
+        format: 2,
+        reference: "",
+        accesses: 3,
+        told: b"5 1\n6 2\n7 3\n8 clock 9000 9000\nfinal 0 3 9000 -\n",
+    },
+    Board {
+        format: 4,
+        reference: "0 0 wrmsr 40000021 1\n",
+        accesses: 4,
+        told: b"5 1\n6 2\n7 3\n8 4\n9 clock 9000 9000\nfinal 0 4 9000 -\n",
+    },
 ];
 
-/// Processor 1 reads processor 0's page, or the reference page, while the access has the lock. The page is off, as no access
-/// has enabled it.
-#[test]
-fn pages_and_clocks_are_read_while_another_has_the_lock(rt: HostRuntime) -> Result<(), Fail> {
-    for (read, off) in READS {
-        let trace = format!(in rt.alloc();
-            "clockboard 4\ncpus 2\nbegin\n0 0 step\n1 1000 {read}\nend\n"
-        )?;
-        let wanted = format!(in rt.alloc(); "4 1\n5 {off}\nfinal 0 1 0 -\n")?;
-        let text = met(&rt, read, 0, 2, trace.as_bytes())?;
-        same(&rt, read, text.as_slice(), wanted.as_bytes());
+/// The header of a trace that opens with a board, in three lines.
+fn header<R: Threads + Wait + Sync + Abort + Alloc<A = Global>>(
+    rt: &R,
+    board: &Board,
+) -> Result<Vec<u8>, Fail> {
+    let Board {
+        format,
+        reference,
+        ..
+    } = board;
+    let trace = format!(in rt.alloc();
+        "clockboard {format}\nguest 2000000\ncpus {CPUS}\nbegin\n0 0 wrmsr 4b564d01 1\n1 0 wrmsr 4b564d01 1\n2 0 wrmsr 4b564d01 1\n{reference}0 9000 clock 0\nend\n"
+    )?;
+    let text = text_of(rt, &["replay", "--state"], trace.as_bytes())?;
+    let state = text.strip_prefix(board.told).ok_or("the state")?;
+    let version = format!(in rt.alloc(); "clockboard {format}\n")?;
+    let mut header = Vec::from_slice(rt.alloc(), version.as_bytes())?;
+    header.extend_from_slice(state)?;
+    header.extend_from_slice(b"begin\n")?;
+    Ok(header)
+}
+
+/// What readings at a count answer, of any page: the guest has a TSC of 2 GHz, and its pages were enabled at 0.
+#[derive(Clone, Copy)]
+struct Readings {
+    count: u64,
+    greatest: u64,
+    clock: &'static str,
+    page: &'static str,
+    reference: &'static str,
+}
+
+/// At the first count each clock is the greatest that was read before, at the second it is its reading.
+const READINGS: [Readings; 2] = [
+    Readings {
+        count: 5_000,
+        greatest: 9_000,
+        clock: "clock 5000 9000",
+        page: "page 2 0 0 80000000 0 01 5000",
+        reference: "hv 1 92233720368547758 0 49",
+    },
+    Readings {
+        count: 20_000,
+        greatest: 20_000,
+        clock: "clock 20000 20000",
+        page: "page 2 0 0 80000000 0 01 20000",
+        reference: "hv 1 92233720368547758 0 199",
+    },
+];
+
+/// The records of a race, and what it prints.
+#[derive(Drop)]
+struct Script {
+    count: u64,
+    line: u64,
+    /// How many readings it has.
+    readings: u64,
+    trace: Vec<u8>,
+    text: Vec<u8>,
+}
+
+impl Script {
+    /// Adds a record, and what it is answered.
+    fn add(&mut self, alloc: Global, cpu: u8, what: &str, answer: &str) -> Result<(), AllocError> {
+        self.line = self.line.wrapping_add(1);
+        let (count, line) = (self.count, self.line);
+        let record = format!(in alloc; "{cpu} {count} {what}\n")?;
+        self.trace.extend_from_slice(record.as_bytes())?;
+        let block = format!(in alloc; "{line} {answer}\n")?;
+        self.text.extend_from_slice(block.as_bytes())
     }
+
+    /// Adds an access, which is answered by its number.
+    fn add_step(&mut self, alloc: Global, cpu: u8, number: u64) -> Result<(), AllocError> {
+        let answer = format!(in alloc; "{number}")?;
+        self.add(alloc, cpu, "step", &answer)
+    }
+
+    /// Adds a reading of the clock and the words of each page, and of the reference page where the format has one.
+    fn add_readings(
+        &mut self,
+        alloc: Global,
+        cpu: u8,
+        format: u8,
+        readings: &Readings,
+    ) -> Result<(), AllocError> {
+        for page in 0..CPUS {
+            let clock = format!(in alloc; "clock {page}")?;
+            self.add(alloc, cpu, &clock, readings.clock)?;
+            let words = format!(in alloc; "page {page}")?;
+            self.add(alloc, cpu, &words, readings.page)?;
+            self.readings = self.readings.wrapping_add(2);
+        }
+        if format == 4 {
+            self.add(alloc, cpu, "hv", readings.reference)?;
+            self.readings = self.readings.wrapping_add(1);
+        }
+        Ok(())
+    }
+}
+
+/// A race: which processor is the holder, and how often each reader makes the readings.
+#[derive(Clone, Copy)]
+struct Race<'a> {
+    board: &'a Board,
+    header: &'a [u8],
+    holder: u8,
+    readings: &'a Readings,
+    rounds: u64,
+}
+
+impl Race<'_> {
+    /// The first reader's accesses come before the holder's, so there is one order of all accesses.
+    fn script(&self, alloc: Global) -> Result<Script, AllocError> {
+        let mut script = Script {
+            count: self.readings.count,
+            line: 3,
+            readings: 0,
+            trace: Vec::from_slice(alloc, self.header)?,
+            text: Vec::new(alloc),
+        };
+        let number = self.board.accesses.wrapping_add(1);
+        let last = number.wrapping_add(ACCESSES);
+        for cpu in 0..CPUS {
+            if cpu == self.holder {
+                script.add_step(alloc, cpu, last)?;
+                continue;
+            }
+            if cpu == first_reader(self.holder) {
+                for place in 0..ACCESSES {
+                    script.add_step(alloc, cpu, number.wrapping_add(place))?;
+                }
+            }
+            for _ in 0..self.rounds {
+                script.add_readings(alloc, cpu, self.board.format, self.readings)?;
+            }
+        }
+        script.trace.extend_from_slice(b"end\n")?;
+        let Readings {
+            count,
+            greatest,
+            ..
+        } = self.readings;
+        let end = format!(in alloc; "final {count} {last} {greatest} -\n")?;
+        script.text.extend_from_slice(end.as_bytes())?;
+        Ok(script)
+    }
+}
+
+/// Runs a race at the gate of a meeting. All its readings are answered while the holder has the lock. Each record goes
+/// through the gate once, and each access, but no reading, is there once with the lock.
+fn expect_met<R: Threads + Wait + Sync + Abort + Alloc<A = Global>>(
+    rt: &R,
+    race: &Race,
+) -> Result<(), AllocError> {
+    let alloc = rt.alloc();
+    let script = race.script(alloc)?;
+    let readings = script.readings;
+    let gate = Meeting::new(race.holder, readings);
+    let words = strings(alloc, &["race"])?;
+    let mut source = MemSource::new(script.trace, Vec::new(alloc), 4096);
+    let mut sink = MemSink::new(alloc, Vec::new(alloc), 4096);
+    let status = run(rt, alloc, &words, &mut source, &mut sink, &gate);
+    let row = (
+        race.board.format,
+        race.holder,
+        race.readings.count,
+        race.rounds,
+    );
+    same(rt, row, status, Status::Ok);
+    let records = readings.wrapping_add(ACCESSES + 1);
+    for (name, word, wanted) in [
+        ("answered", &gate.answered, readings),
+        ("before", &gate.befores, records),
+        ("after", &gate.afters, records),
+        ("inside", &gate.insides, ACCESSES + 1),
+    ] {
+        same(rt, (row, name), word.load(Ordering::SeqCst), wanted);
+    }
+    same(rt, row, sink.bytes(), script.text.as_slice());
     Ok(())
 }
 
-/// How often processor 1 makes two accesses and then a read: so often that it makes several accesses under one lock.
-const ROUNDS: u64 = 400;
-
-/// The read that the access of processor 0 meets, the second of processor 1. Two accesses stand before it, and with those
-/// before the first read they are among the first eight records.
-const SECOND_READ: u64 = 5;
+/// How often each reader makes its readings: so often that its last records alone are answered in turns, and so often that
+/// the first ones are answered together with the accesses before them.
+const ROUNDS: [u64; 2] = [12, 200];
 
 #[test]
-fn a_worker_keeps_no_lock_for_its_reads(rt: HostRuntime) -> Result<(), Fail> {
-    for (read, _off) in READS {
-        let mut trace = String::from_str(rt.alloc(), "clockboard 4\ncpus 2\nbegin\n0 0 step\n")?;
-        for _ in 0..ROUNDS {
-            trace.push_str("1 0 step\n1 0 step\n1 0 ")?;
-            trace.push_str(read)?;
-            trace.push('\n')?;
+fn readings_are_answered_while_another_has_the_lock(rt: HostRuntime) -> Result<(), Fail> {
+    for board in &BOARDS {
+        let header = header(&rt, board)?;
+        for holder in 0..CPUS {
+            for (readings, rounds) in READINGS.iter().zip(ROUNDS) {
+                let race = Race {
+                    board,
+                    header: &header,
+                    holder,
+                    readings,
+                    rounds,
+                };
+                expect_met(&rt, &race)?;
+            }
         }
-        trace.push_str("end\n")?;
-        let _text = met(&rt, read, SECOND_READ, 3 * ROUNDS + 1, trace.as_bytes())?;
     }
     Ok(())
 }

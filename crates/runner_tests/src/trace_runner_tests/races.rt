@@ -67,7 +67,7 @@ fn a_race_prints_a_refusal_alone(rt: HostRuntime) -> Result<(), Fail> {
 }
 
 /// Races a trace, and compares what it prints with what its replay prints.
-fn expect_replay<R: Threads + Wait + Sync + Abort + Alloc<A = Global>>(
+pub(super) fn expect_replay<R: Threads + Wait + Sync + Abort + Alloc<A = Global>>(
     rt: &R,
     race: &[&str],
     replay: &[&str],

@@ -37,6 +37,7 @@ exit status:\n\
 \x20 7   a time is 2^59 ns or more\n\
 \x20 8   the board has answered 2^62 accesses\n\
 \x20 9   a page, or the wall clock's words, had its last version\n\
+\x20 10  what the threads of a race gave back doesn't fit together\n\
 \x20 11  the words are no text\n\
 \n\
 tools/explain TRACE shows the place in a line that is refused, and how to\n\

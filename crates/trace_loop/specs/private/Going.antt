@@ -1,25 +1,7 @@
 -- The place of a run over lines that began with these ends and goes on.
-use Rattle.std.specs.Prelude.{
-  ◌≡◌,
-  ◌≢◌,
-  ℕ,
-  Bool,
-  false,
-  ◌+◌,
-  ◌-◌,
-  ◌^◌,
-  ◌<◌,
-  ◌≤◌,
-  List,
-  ◌++◌,
-  length,
-  take,
-  Option,
-  Some,
-  None,
-}
-use Rattle.std.specs.Io.KnownBytes.{Appends}
-use Rattle.board_io.specs.Ends.{Input, Output}
+use Rattle.std.specs.Prelude.{◌≡◌, ◌≢◌, ℕ, Bool, false, ◌+◌, ◌-◌, ◌^◌, ◌<◌, ◌≤◌, List, ◌++◌, length, take, Option, None}
+use Rattle.std.specs.Io.KnownBytes.{Consumes}
+use Rattle.board_io.specs.Ends.{Grows, Input, Output, Gave, Gives, Held}
 use Rattle.board_io.specs.Faults.{Rose}
 use Rattle.trace_loop.specs.Progress.{Closing, Answer, Progress, opened, standing, after_bytes}
 use Rattle.trace_loop.specs.Outcome.{run_over, Outcome}
@@ -30,18 +12,22 @@ use Rattle.trace_loop.specs.declared.feed.Feed.{Feed}
 -- what is known of a source and a sink
 pub record BothEnds : Type 0 where
   pub remaining : Option (List ℕ)
+  pub read : List ℕ
+  pub ends : ℕ
   pub given : ℕ
   pub before : ℕ
   pub faults : ℕ
   pub done : Bool
   pub late : Bool
-  pub contents : Option (List ℕ)
+  pub contents : Held
   pub sink_faults : ℕ
 
 -- .. of the source
 abbrev pub source_of : BothEnds → Input
 source_of ends = record {
   remaining = ends.remaining;
+  read = ends.read;
+  ends = ends.ends;
   given = ends.given;
   before = ends.before;
   done = ends.done;
@@ -70,10 +56,13 @@ pub record Stands (A E : Type 0) (answer : ℕ → A → List ℕ → Answer A E
 -- a run that began in state `a` with the ends `start` goes on, and is here now
 pub record IsGoing (A E : Type 0) (answer : ℕ → A → List ℕ → Answer A E) (a : A) (start : BothEnds)
     (state : A) (feed : Feed) (now : BothEnds) : Type 0 where
-  pub told : (input : List ℕ) → start.remaining ≡ Some input
-      → (rest put : List ℕ) × (now.remaining ≡ Some rest)
-      × Appends start.contents now.contents put
-      × Stands A E answer a input feed.lines.left rest put feed.out.items
+  pub bytes : List ℕ
+  pub read : now.read ≡ start.read ++ bytes
+  pub ends : now.ends ≡ start.ends
+  pub known : Consumes start.remaining now.remaining bytes
+  pub put : List ℕ
+  pub puts : Grows start.contents now.contents put
+  pub place : (rest : List ℕ) → Stands A E answer a (bytes ++ rest) feed.lines.left rest put feed.out.items
       (now.given - start.given) (now.before - start.given)
       (standing (feed.lines.number + 1) feed.lines.text state (put ++ feed.out.items))
   pub lines : feed.lines.number + length feed.lines.left ≤ now.given - start.given
@@ -86,10 +75,11 @@ pub record IsGoing (A E : Type 0) (answer : ℕ → A → List ℕ → Answer A 
 -- a run that began so is over
 pub record IsOver (A E : Type 0) (answer : ℕ → A → List ℕ → Answer A E)
     (closing : ℕ → A → Closing E) (a : A) (start now : BothEnds) (ended : Ended E) : Type 0 where
-  pub outcome : (input : List ℕ) → start.remaining ≡ Some input
+  pub gives : Gives (source_of start) (source_of now)
+  pub outcome : (input : List ℕ) → Gave (source_of start) (source_of now) input
       → Outcome (run_over answer closing a input (source_of start) (source_of now)) ended
       start.contents now.contents
-  pub stopped : (input : List ℕ) → start.remaining ≡ Some input
+  pub stopped : (input : List ℕ) → Gave (source_of start) (source_of now) input
       → (after_bytes answer (take (now.before - start.given) input) (opened a)).end ≡ None
   pub once : start.done ≡ false → start.late ≡ false → now.late ≡ false
   pub well : ended ≢ SourceFault → ended ≢ SinkFault → now.faults ≡ start.faults
@@ -101,6 +91,8 @@ pub record IsOver (A E : Type 0) (answer : ℕ → A → List ℕ → Answer A E
 abbrev pub ends_of : Input → Output → BothEnds
 ends_of source sink = record {
   remaining = source.remaining;
+  read = source.read;
+  ends = source.ends;
   given = source.given;
   before = source.before;
   faults = source.faults;

@@ -1,6 +1,6 @@
 -- What a race leaves of its source and its sink.
-use Rattle.std.specs.Prelude.{◌≡◌, ℕ, ◌-◌, Bool, List, take, Some, None}
-use Rattle.board_io.specs.Ends.{Input, Output}
+use Rattle.std.specs.Prelude.{◌≡◌, ℕ, ◌-◌, Bool, List, take, None}
+use Rattle.board_io.specs.Ends.{Input, Output, Gave}
 use Rattle.board_io.specs.Faults.{Rose}
 use Rattle.trace_loop.specs.Text.{memory_fault_text}
 use Rattle.trace_runner.specs.Check.{check_after, check}
@@ -12,9 +12,9 @@ use Rattle.trace_runner.specs.Trace.{TraceRead}
 use Rattle.trace_replay.specs.declared.status.Status.{Status}
 use Rattle.trace_replay.specs.declared.status.Status.TheVariants.{NoMemory}
 
--- this is so of the input that a source has left, where that is known
-abbrev pub OfInput : Input → (List ℕ → Type 0) → Type 0
-OfInput start Holds = (input : List ℕ) → start.remaining ≡ Some input → Holds input
+-- this is so of each input that a source can have had, by what it gave
+abbrev pub OfInput : Input → Input → (List ℕ → Type 0) → Type 0
+OfInput start end Holds = (input : List ℕ) → Gave start end input → Holds input
 
 -- this is so where the input is a trace of one processor, of which no line is refused
 abbrev pub WhereAlone : Bool → List ℕ → Type 0 → Type 0

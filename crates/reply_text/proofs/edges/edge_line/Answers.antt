@@ -1,6 +1,6 @@
 use Rattle.std.proofs.Common.{◌≡◌, ◌-◌, take, drop, arith}
 use Rattle.reply_text.specs.Text.{edge_text}
-use Rattle.reply_text.proofs.EdgeFronts.{edge_printed}
+use Rattle.reply_text.proofs.EdgeLines.{edge_printed}
 use Rattle.reply_text.proofs.Fronts.{length_between}
 use Rattle.reply_text.proofs.edges.edge_line.Goals as goal
 

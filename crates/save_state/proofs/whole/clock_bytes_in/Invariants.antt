@@ -1,5 +1,5 @@
-use Rattle.save_state.proofs.Names.{ℕ, ◌+◌, ◌*◌, byte, IsFilled}
+use Rattle.save_state.proofs.Names.{AreRead, byte}
 use Rattle.save_state.proofs.whole.clock_bytes_in.Given as goal
 
 abbrev pub invariant-loop-k : goal.invariant-loop-k
-invariant-loop-k l = IsFilled (λ (j : ℕ). (byte).value (123 + 1 * j) l.bytes) 0 l.all l.k 128
+invariant-loop-k l = AreRead (λ j. (byte).value) 0 1 128 l.initial.fields l.fields l.all l.k

@@ -1,6 +1,6 @@
 use Rattle.std.proofs.Common.{rules, ℕ, List, ◌++◌, ap, ◌∙◌, take}
-use Rattle.std.proofs.KnownBytes.{Appends-trans}
-use Rattle.std.specs.Io.KnownBytes.{Appends}
+use Rattle.board_io.proofs.Bytes.{Grows-trans}
+use Rattle.board_io.specs.Ends.{Grows}
 use Rattle.std.specs.List.{flat_map}
 use Rattle.std.specs.Vec.{vec_items}
 use Rattle.trace_loop.specs.Outcome.{Begins}
@@ -15,11 +15,11 @@ returns-in_err-put_all g c =
     let front : List ℕ = flat_map vec_items (take i texts) in
     let cut = c.in_err-put_all.ensures.put.cut in
     let cut = on_err_from c.from_residual.result
-    ((cut : List ℕ) × Begins cut (flat_map vec_items texts) × Appends (contents c.args.sink.now) (contents c.put_all.new.sink) cut) (
+    ((cut : List ℕ) × Begins cut (flat_map vec_items texts) × Grows (contents c.args.sink.now) (contents c.put_all.new.sink) cut) (
       front ++ cut.0,
       begins_each vec_items texts i c.text-item.result cut.0 c.deref.result.now c.loop-text-test.true
           (c.deref.ensures.value ∙ ap vec_items c.text-item.is) cut.1,
-      Appends-trans (contents c.args.sink.now) (contents c.loop-text.sink) (contents c.put_all.new.sink) front cut.0 c.loop-text.invariant.front cut.2,
+      Grows-trans (contents c.args.sink.now) (contents c.loop-text.sink) (contents c.put_all.new.sink) front cut.0 c.loop-text.invariant.front cut.2,
     ) in record {
       all = search rules;
       cut = cut;

@@ -1,6 +1,7 @@
-use Rattle.std.proofs.Common.{◌≡◌, ℕ, ◌+◌, ◌<◌, List, ◌++◌, Bool, false, ◌||◌, Ok, eqb, length, refl, sym, ap, ◌∙◌, subst, arith}
+use Rattle.std.proofs.Common.{◌≡◌, ℕ, ◌+◌, ◌<◌, List, [], ◌++◌, Bool, false, ◌||◌, if◌then◌else◌, Ok, eqb, length, refl, sym, ap, ◌∙◌, subst, arith, append-nil}
+use Rattle.std.proofs.lemmas.List.{nil_from_length}
 use Rattle.std.proofs.lemmas.Bool.{ne_eqb}
-use Rattle.std.specs.Io.KnownBytes.{Appends}
+use Rattle.board_io.specs.Ends.{Grows}
 use Rattle.clk_units.specs.declared.NoMemory.{NoMemory}
 use Rattle.board_io.specs.Faults.{Rose}
 use Rattle.trace_loop.specs.Text.{source_fault_text, memory_fault_text}
@@ -9,7 +10,7 @@ use Rattle.trace_loop.specs.Answered.{IsAnswered}
 use Rattle.trace_loop.specs.Cut.{IsLine, IsWhole}
 use Rattle.trace_loop.specs.Outcome.{Begins, Said}
 use Rattle.trace_loop.specs.declared.ended.Ended.TheVariants as statuses
-use Rattle.trace_loop.proofs.Outcomes.{line_shorter, consumed, at_end, IsWholePut, put_whole, on_err_from_is_err}
+use Rattle.trace_loop.proofs.Outcomes.{line_shorter, at_end, IsWholePut, put_whole, on_err_from_is_err}
 use Rattle.trace_loop.proofs.Goings.{goes_line, goes_refill, over_line, over_memory, over_sink, over_end, over_source}
 use Rattle.trace_loop.proofs.program.answer_fed.Given as given
 use Rattle.trace_loop.proofs.program.answer_fed.Goals as goal
@@ -87,8 +88,8 @@ returns-then-is_err-clause-over g c =
     let some = told (0 < length out) failed c.put_all.ensures.some in
     over_sink g.row.T.Denot g.row.E.Denot g.T.Answerer.answer g.T.Answerer.closing _ _ c.lines.answerer c.lines.feed _ c.lines.invariant.going
     put.contents put.faults (omega (arith, some, ap length is))
-    (subst (λ (t : List ℕ). (cut : List ℕ) × Begins cut t × Appends old.contents put.contents cut) is
-    (told ((cut : List ℕ) × Begins cut out × Appends old.contents put.contents cut) failed c.put_all.ensures.put.cut))
+    (subst (λ (t : List ℕ). (cut : List ℕ) × Begins cut t × Grows old.contents put.contents cut) is
+    (told ((cut : List ℕ) × Begins cut out × Grows old.contents put.contents cut) failed c.put_all.ensures.put.cut))
     (told (Rose old.faults put.faults) failed c.put_all.ensures.put.failed)
 
 -- no line was cut off, and all was put
@@ -112,8 +113,10 @@ returns-in-Ok-eq0-clause-over g c =
     let put = all_put g at in
     let nothing : c.in-Ok-eq0.field-0 ≡ 0 = c.in-Ok-eq0.field-0-test in
     over_end g.row.T.Denot g.row.E.Denot g.T.Answerer.answer g.T.Answerer.closing _ _ c.lines.answerer c.lines.feed _ c.lines.invariant.going
-    c.advance.new.self _ _ _ (whole g at) put.all put.well c.refill.ensures.before c.refill.new.self.number c.refill.new.self.text c.end_input.result
+    c.advance.new.self _ _ _ (whole g at) put.all put.well c.refill.ensures.before c.refill.new.self.left c.in-Ok-eq0.ensures.read c.refill.new.self.number c.refill.new.self.text c.end_input.result
     c.in-Ok-eq0.ensures.well (omega (arith, c.in-Ok-eq0.ensures.given)) c.refill.ensures.number c.refill.ensures.text
+    (nil_from_length c.refill.new.self.left (c.in-Ok-eq0.ensures.count ∙ nothing))
+    (c.in-Ok-eq0.ensures.ends ∙ ap (λ (n : ℕ). if eqb n 0 then (g.S.Source.input c.lines.source).ends + 1 else (g.S.Source.input c.lines.source).ends) nothing)
     (λ rest is. at_end (g.S.Source.input c.lines.source).remaining (g.S.Source.input c.refill.new.source).remaining rest c.refill.new.self.left is
     (c.in-Ok-eq0.ensures.count ∙ nothing) c.in-Ok-eq0.ensures.bytes (c.in-Ok-eq0.ensures.end nothing))
     (late g at) c.end_input.ensures.said c.end_input.ensures.sink.well
@@ -123,6 +126,7 @@ lines-preserved g c =
     let at = (goal.at.lines-preserved g c).After-refill in
     let l = whole g at in
     let put = all_put g at in
+    let some : eqb c.in-Ok-refill.field-0 0 ≡ false = ne_eqb c.in-Ok-refill.field-0 0 c.in-Ok-refill.field-0-test.1 in
     let fed = c.lines.invariant.fed in
     record {
       may = subst (λ (n : ℕ). g.T.Answerer.may (n + 1) c.lines.answerer) (sym (c.refill.ensures.number ∙ l.number)) c.lines.invariant.may;
@@ -131,14 +135,13 @@ lines-preserved g c =
         omega (arith, c.refill.ensures.number, l.number, fed.0, c.in-Ok-refill.ensures.given, c.in-Ok-refill.ensures.count, c.in-Ok-refill.ensures.limit),
       );
       going = goes_refill g.row.T.Denot g.row.E.Denot g.T.Answerer.answer g.T.Answerer.closing _ _ c.lines.answerer c.lines.feed _ c.lines.invariant.going
-          c.advance.new.self _ _ _ l put.all put.well c.refill.ensures.before (record { lines = c.refill.new.self; out = c.clear.new.self }) refl refl
+          c.advance.new.self _ _ _ l put.all put.well c.refill.ensures.before c.refill.new.self.left c.in-Ok-refill.ensures.read (record { lines = c.refill.new.self; out = c.clear.new.self }) refl refl
           c.in-Ok-refill.ensures.well (omega (arith, c.in-Ok-refill.ensures.given, c.in-Ok-refill.ensures.count)) c.refill.ensures.number
           c.refill.ensures.text c.clear.ensures.items
-          (λ rest is. consumed (g.S.Source.input c.lines.source).remaining (g.S.Source.input c.refill.new.source).remaining rest c.refill.new.self.left is
-          c.in-Ok-refill.ensures.bytes)
-          (λ done yet.
-          let some : eqb c.in-Ok-refill.field-0 0 ≡ false = ne_eqb c.in-Ok-refill.field-0 0 c.in-Ok-refill.field-0-test.1 in
-          (c.in-Ok-refill.ensures.done ∙ ap (λ (b : Bool). b || eqb c.in-Ok-refill.field-0 0) done ∙ some, late g at done yet));
+          refl
+          (c.in-Ok-refill.ensures.ends ∙ ap (λ (b : Bool). if b then (g.S.Source.input c.lines.source).ends + 1 else (g.S.Source.input c.lines.source).ends) some)
+          c.in-Ok-refill.ensures.bytes
+          (λ done yet. (c.in-Ok-refill.ensures.done ∙ ap (λ (b : Bool). b || eqb c.in-Ok-refill.field-0 0) done ∙ some, late g at done yet));
       quiet = put.quiet ∙ c.lines.invariant.quiet;
       once = λ done yet. c.put_all.ensures.put.once (c.lines.invariant.quiet ∙ done) (c.lines.invariant.once done yet);
     }
@@ -149,5 +152,6 @@ returns-in-Err-refill-clause-over g c =
     let at = (goal.at.returns-in-Err-refill-clause-over g c).After-refill in
     let put = all_put g at in
     over_source g.row.T.Denot g.row.E.Denot g.T.Answerer.answer g.T.Answerer.closing _ _ c.lines.answerer c.lines.feed _ c.lines.invariant.going
-    c.advance.new.self _ _ _ (whole g at) put.all put.well c.refill.ensures.before c.say-in-Err-refill.result c.in-Err-refill.ensures.failed
-    c.in-Err-refill.ensures.given (late g at) c.say-in-Err-refill.ensures.said c.say-in-Err-refill.ensures.sink.well
+    c.advance.new.self _ _ _ (whole g at) put.all put.well c.refill.ensures.before []
+    (c.in-Err-refill.ensures.kept ∙ sym (append-nil (g.S.Source.input c.lines.source).read)) c.say-in-Err-refill.result c.in-Err-refill.ensures.failed
+    c.in-Err-refill.ensures.given refl c.in-Err-refill.ensures.ends (late g at) c.say-in-Err-refill.ensures.said c.say-in-Err-refill.ensures.sink.well

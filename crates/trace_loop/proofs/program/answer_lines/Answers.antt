@@ -2,6 +2,7 @@ use Rattle.trace_loop.proofs.program.answer_lines.Goals as goal
 
 pub returns : goal.returns
 returns g c = record {
+  gives = c.answer_fed.ensures.over.gives;
   outcome = c.answer_fed.ensures.over.outcome;
   stopped = c.answer_fed.ensures.over.stopped;
   ends = record {

@@ -1,4 +1,4 @@
-use Rattle.std.proofs.Common.{ℕ, List, Some, take, refl, sym, ap, subst, arith, inl, inr}
+use Rattle.std.proofs.Common.{ℕ, List, Some, take, refl, sym, ap, subst, arith}
 use Rattle.board_io.specs.Ends.{Input}
 use Rattle.board_io.specs.Faults.{Rose}
 use Rattle.trace_gen.specs.Text.{gen_text}
@@ -31,8 +31,8 @@ returns-clause-said g c =
     let is = soaked_is (w c.new.result) c.answer_lines.result (g.K.Sink.output c.args.sink.now).contents (g.K.Sink.output c.answer_lines.new.sink).contents
     shown
     (λ k. quiet-after (take k text) (opened (begun records c.new.result)) (λ _. refl))
-    (λ rose. elim rose [ inl some ↦ omega arith | inr last ↦ omega arith ])
-    c.answer_lines.ensures.ends.sink_fault (c.answer_lines.ensures.outcome text (ap (λ (f : Feed). Some f.left) c.new-source.ensures)) in
+    (λ rose. absurd (omega (arith, rose)))
+    c.answer_lines.ensures.ends.sink_fault (c.answer_lines.ensures.outcome text (c.answer_lines.ensures.gives.known text (ap (λ (f : Feed). Some f.left) c.new-source.ensures))) in
     subst (λ (s : Status). Soaked (soak_of c.args.size) s (g.K.Sink.output c.args.sink.now).contents (g.K.Sink.output c.answer_lines.new.sink).contents shown)
     (sym c.status_of.ensures)
     (subst (λ (r : Replay). Soaked (w r).whole (status_of c.answer_lines.result) (g.K.Sink.output c.args.sink.now).contents

@@ -1,6 +1,7 @@
 use Rattle.std.proofs.Common.{◌≡◌, ℕ, ◌-◌, Bool, List, None, map, take, refl, subst, sym, inl, inr}
 use Rattle.std.specs.String.{string_bytes}
 use Rattle.board_io.specs.Ends.{Input}
+use Rattle.board_io.proofs.Bytes.{gives_nothing}
 use Rattle.command_line.specs.Command.{command_of}
 use Rattle.command_line.specs.declared.command.Command.TheVariants.{Replay as ReplayOf, Race as RaceOf}
 use Rattle.trace_loop.specs.Text.{memory_fault_text}
@@ -72,3 +73,10 @@ returns-in-Ok-Race-clause-race_alone g c = by_race g c _ c.race.ensures.alone
 pub returns-in-Err-clause-race_alone : goal.returns-in-Err-clause-race_alone
 unfolding memory_fault_text
 returns-in-Err-clause-race_alone g c = λ shows is input e trace whole one. inr (c.say.ensures.said, refl)
+
+-- where nothing is read, nothing was given
+pub returns-in-Ok-clause-gives : goal.returns-in-Ok-clause-gives
+returns-in-Ok-clause-gives g c = gives_nothing (g.S.Source.input c.args.source.now)
+
+pub returns-in-Err-clause-gives : goal.returns-in-Err-clause-gives
+returns-in-Err-clause-gives g c = gives_nothing (g.S.Source.input c.args.source.now)

@@ -1,4 +1,5 @@
 use Rattle.std.proofs.Common.{refl, inl, inr}
+use Rattle.board_io.proofs.Bytes.{gives_nothing}
 use Rattle.trace_loop.specs.Text.{memory_fault_text}
 use Rattle.trace_runner.proofs.race.race.Goals as goal
 
@@ -13,3 +14,6 @@ returns-in-Err-clause-leaves g c = λ input e. inr (c.say.ensures.said, refl)
 pub returns-in-Err-clause-alone : goal.returns-in-Err-clause-alone
 unfolding memory_fault_text
 returns-in-Err-clause-alone g c = λ input e trace whole one. inr (c.say.ensures.said, refl)
+
+pub returns-in-Err-clause-gives : goal.returns-in-Err-clause-gives
+returns-in-Err-clause-gives g c = gives_nothing (g.S.Source.input c.args.source.now)

@@ -1,6 +1,0 @@
-use Rattle.std.proofs.Common.{arith}
-use Rattle.byte_table.proofs.Little.{number_at-4}
-use Rattle.byte_table.proofs.numbers.four_at.Goals as goal
-
-pub returns : goal.returns
-returns c = omega (arith, number_at-4 c.args.place c.args.bytes.now)

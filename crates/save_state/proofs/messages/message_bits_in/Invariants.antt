@@ -1,6 +1,0 @@
-use Rattle.save_state.proofs.Names.{ℕ, ◌+◌, ◌*◌, false, read, IsFilled, message, no_message, message_place}
-use Rattle.save_state.proofs.messages.message_bits_in.Given as goal
-
-abbrev pub invariant-loop-k : goal.invariant-loop-k
-invariant-loop-k l =
-    IsFilled (λ (j : ℕ). (read (message j) (message_place l.format l.cpus 0 + 9 * j) l.bytes no_message).0) false l.all l.k 8
