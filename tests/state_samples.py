@@ -12,6 +12,7 @@ from types import ModuleType
 from unittest import mock
 
 import support
+from clocktools.command import USAGE, answered
 
 PIT_AND_HPET = """guest 2500000
 rtc 50 59 23 07 28 02 26
@@ -103,11 +104,8 @@ def tool() -> ModuleType:
 def run_tool(*words: str, text: str = "") -> tuple[int, list[str], list[str]]:
     """The status of tools/state, and the lines of its standard output and standard error."""
     out, said = io.StringIO(), io.StringIO()
-    stdin = io.TextIOWrapper(io.BytesIO(text.encode()))
+    stdin = io.TextIOWrapper(io.BufferedReader(io.BytesIO(text.encode())))  # type: ignore[arg-type]
     with mock.patch.object(sys, "argv", ["state", *words]), mock.patch.object(sys, "stdin", stdin), \
             contextlib.redirect_stdout(out), contextlib.redirect_stderr(said):
-        try:
-            status = tool().main()
-        except SystemExit as end:
-            status = int(end.code or 0)
+        status = answered("state", tool().main, USAGE)
     return status, out.getvalue().splitlines(), said.getvalue().splitlines()

@@ -116,7 +116,7 @@ class Install(unittest.TestCase):
             monitor = [f"share/doc/clockboard/examples/monitor/{path.name}" for path in (HEADER.parent / "monitor").iterdir()]
             tools = support.TOOLS / "clocktools"
             modules = [f"lib/clockboard/tools/{path.relative_to(support.TOOLS)}"
-                       for path in (tools / "__init__.py", tools / "command.py", tools / "program.py", *(tools / "states").glob("*.py"))]
+                       for path in (tools / "__init__.py", tools / "command.py", tools / "files.py", tools / "program.py", *(tools / "states").glob("*.py"))]
             self.assertEqual(files, sorted([
                 "bin/clockboard", "bin/clockboard-state", "lib/clockboard/bin/clockboard", "lib/clockboard/tools/state", *modules, "include/clockboard/clockboard.h", "include/clockboard/put_page.h",
                 "include/clockboard/record.h", "include/clockboard/shared.h",

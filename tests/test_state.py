@@ -89,7 +89,7 @@ class Print(Tool):
     def test_standard_output_fails(self) -> None:
         with open("/dev/full", "w", encoding="utf-8") as full:
             done = subprocess.run([support.TOOLS / "state", "print", self.state], stdout=full, stderr=subprocess.PIPE, text=True, check=False)
-        self.assertEqual((done.returncode, done.stderr), (5, "state: standard output: No space left on device\n"))
+        self.assertEqual((done.returncode, done.stderr), (5, "state: its standard output takes no more: No space left on device\n"))
 
     def test_last_access(self) -> None:
         """A board that has answered its last access is printed without the answers to more."""

@@ -10,7 +10,7 @@ from pathlib import Path
 
 import support
 
-TOOLS = ("compare", "diagram", "explain", "import", "kvm-record", "page", "replay", "summary", "wave")
+TOOLS = ("compare", "diagram", "explain", "import", "kvm-record", "page", "replay", "state", "summary", "wave")
 TRACE = str(support.TOP / "examples/first-rise.trace")
 PRINTED = str(support.TOP / "examples/first-rise.out")
 MISTAKES = (
@@ -18,7 +18,7 @@ MISTAKES = (
     ("compare", ("--nera", "5", "t"), "'--nera' is no option; is it --near?"),
     ("compare", ("--near", "-5", "t"), "--near: -5 is below 0, the least number of nanoseconds"),
     ("compare", ("--near", "5us", "t"), "--near: '5us' isn't a number of nanoseconds: digits alone are"),
-    ("compare", ("t", "--near"), "--near is to have NS behind it"),
+    ("compare", ("t", "--near"), "--near is to have NS after it"),
     ("compare", ("a", "b", "c"), "'c' is one word too many; it takes TRACE PEER"),
     ("diagram", ("--width", "10"), "--width: 10 is below 40, the least number of characters"),
     ("diagram", ("--from", "9", "--to", "5"), "--from 9 is after --to 5"),
@@ -35,12 +35,19 @@ MISTAKES = (
     ("replay", ("--jsno",), "'--jsno' is no option; is it --json?"),
     ("replay", ("--json", "--assert", "x"), "--json and --assert don't go together"),
     ("replay", ("-", "--assert", "-"), "TRACE and EXPECTED can't both be standard input"),
+    ("state", ("pirnt", "-"), "'pirnt' is none of print, diff, set, what-if, from, to; is it print?"),
+    ("state print", ("-", "--jsno"), "'--jsno' is no option; is it --json?"),
+    ("state set", ("-", "rtc.sec"), "NAME=VALUE: 'rtc.sec' isn't NAME=VALUE"),
+    ("state what-if", ("-", "--khz", "5"), "--gap is missing; it takes STATE"),
+    ("state what-if", ("-", "--khz", "5", "--gap", "5", "--policy", "delay"), "--policy is to have PIT RTC HPET after it"),
+    ("state from", ("qmeu", "s"), "'qmeu' is none of qemu, kvm; is it qemu?"),
+    ("state to kvm", ("-",), "FOLDER is missing; it takes STATE FOLDER"),
     ("summary", (), "RESULT is missing; it takes RESULT"),
     ("wave", ("-t", "-"), "TRACE and PRINTED can't both be standard input"),
 )
-"""By tool: its words, and what is said of them."""
+"""By tool, and by its job: the words, and what is said of them."""
 FILES = (("compare", ("{}", "{}"), 2), ("diagram", ("{}",), 1), ("explain", ("{}",), 1), ("import", ("qemu", "{}", "{}.out"), 1), ("page", ("{}",), 1),
-         ("replay", ("{}",), 2), ("wave", ("{}",), 1))
+         ("replay", ("{}",), 2), ("state", ("print", "{}"), 2), ("wave", ("{}",), 1))
 """The tools that read a file, with their words, and their status where it can't be read."""
 
 
@@ -48,9 +55,10 @@ class Words(unittest.TestCase):
     def test_mistakes(self) -> None:
         for tool, words, said in MISTAKES:
             with self.subTest(tool, words=words):
-                done = support.run(tool, *words)
+                name, *jobs = tool.split()
+                done = support.run(name, *jobs, *words)
                 self.assertEqual((done.returncode, done.stdout), (2, ""))
-                self.assertEqual(done.stderr, f"{tool}: {said}; tools/{tool} --help has all words\n")
+                self.assertEqual(done.stderr, f"{name}: {said}; tools/{tool} --help has all words\n")
 
     def test_help_and_version(self) -> None:
         for tool in TOOLS:
@@ -62,7 +70,7 @@ class Words(unittest.TestCase):
 
     def test_each_tool_is_here(self) -> None:
         scripts = {path.name for path in support.TOOLS.iterdir() if path.is_file() and path.suffix != ".md"}
-        self.assertEqual(scripts, {*TOOLS, "state"})
+        self.assertEqual(scripts, set(TOOLS))
 
 
 class Files(unittest.TestCase):

@@ -41,29 +41,50 @@ class Words(argparse.ArgumentParser):
     def __init__(self, name: str, about: str | None, example: str) -> None:
         super().__init__(prog=f"tools/{name}", description=about, epilog=f"Example:\n\n    {example}", allow_abbrev=False,
                          formatter_class=argparse.RawDescriptionHelpFormatter)
-        self.name = name
-        self.add_argument("--version", action="version", version=f"{name} of clockboard {version()}")
+        self.name = name.split()[0]
+        self.add_argument("--version", action="version", version=f"{self.name} of clockboard {version()}")
 
     def options(self) -> list[str]:
         return [word for action in self._actions for word in action.option_strings]
 
     def parse_args(self, *given: Any) -> argparse.Namespace:  # type: ignore[override]
         found, rest = self.parse_known_args(*given)
+        self.refuse(rest)
+        return found
+
+    def refuse(self, rest: list[str]) -> None:
+        """Ends the script where words are left."""
         for word in rest:
             if word.startswith("-") and word != "-":
                 self.error(f"'{shown(word)}' is no option{nearest(word.split('=')[0], self.options())}")
             self.error(f"'{shown(word)}' is one word too many; {self.expected()}")
-        return found
 
     def expected(self) -> str:
         """What the script takes, but for its options."""
-        names = [str(action.metavar or action.dest) for action in self._actions if not action.option_strings]
+        names = [words_of(action) for action in self._actions if not action.option_strings]
         return f"it takes {' '.join(names)}" if names else "it takes options alone"
 
     def error(self, message: str) -> NoReturn:
         """Ends the script for a mistake in its words. What argparse says is put into the words of a user."""
         said = argparse_says(self, message)
-        raise SystemExit(say(self.name, f"{said}; tools/{self.name} --help has all words", USAGE))
+        raise SystemExit(say(self.name, f"{said}; {self.prog} --help has all words", USAGE))
+
+
+class JobWords(Words):
+    """The words of one of a script's jobs, for `add_parser`; `prog` is 'tools/SCRIPT JOB'."""
+
+    def __init__(self, prog: str, about: str | None, example: str) -> None:
+        super().__init__(prog.removeprefix("tools/"), about, example)
+
+    def parse_known_args(self, *given: Any) -> tuple[argparse.Namespace, list[str]]:  # type: ignore[override]
+        found, rest = super().parse_known_args(*given)
+        self.refuse(rest)
+        return found, []
+
+
+def words_of(action: argparse.Action) -> str:
+    """What a script's help calls the words of an argument."""
+    return " ".join(action.metavar) if isinstance(action.metavar, tuple) else str(action.metavar or action.dest)
 
 
 def argparse_says(parser: Words, message: str) -> str:
@@ -77,13 +98,16 @@ def argparse_says(parser: Words, message: str) -> str:
     no_value = re.match(r"argument (\S+): expected (.*) arguments?$", message)
     if no_value:
         action = next(it for it in parser._actions if no_value[1].split("/")[0] in it.option_strings)
-        return f"{no_value[1].split('/')[-1]} is to have {action.metavar or 'a value'} behind it"
+        return f"{no_value[1].split('/')[-1]} is to have {words_of(action) if action.metavar else 'a value'} after it"
     return re.sub(r"^argument (\S+): ", r"\1: ", message)
 
 
 def version() -> str:
-    found = VERSION.search((TOP / "c" / "clockboard.h").read_text())
-    return found[1] if found else "of no number"
+    """The version of the program, as the header for C has it: that of the repository, or the installed one."""
+    for header in (TOP / "c" / "clockboard.h", TOP.parents[1] / "include" / "clockboard" / "clockboard.h"):
+        if header.is_file() and (found := VERSION.search(header.read_text())):
+            return found[1]
+    return "of no number"
 
 
 def number(name: str, low: int = 0, high: int | None = None) -> Callable[[str], int]:
@@ -144,26 +168,31 @@ class Output(io.FileIO):
                              else f"its standard output takes no more: {fault.strerror}") from fault
 
 
-def run(name: str, main: Callable[[], int], failed: int = FAILED) -> int:
-    """The status of a script's main function, where it may refuse what it is given, and files may fail."""
+def answered(name: str, main: Callable[[], int], failed: int = FAILED) -> int:
+    """The status of a script's main function, or `failed` where it refuses what it is given, or a file fails."""
+    try:
+        return main()
+    except SystemExit as end:
+        return int(end.code or 0)
+    except Refused as fault:
+        return say(name, str(fault), failed)
+    except OSError as fault:
+        return say(name, told(fault), failed)
+
+
+def run(name: str, main: Callable[[], int], failed: int = FAILED, lost: int = OUTPUT_LOST) -> int:
+    """Runs a script's main function: the status is as `answered` has it, or `lost` where standard output fails."""
     if sys.stdout is None:
-        return say(name, "its standard output is closed", OUTPUT_LOST)
+        return say(name, "its standard output is closed", lost)
     output = io.BufferedWriter(Output(sys.stdout.fileno(), "w", closefd=False))
     sys.stdout = io.TextIOWrapper(output, encoding="utf-8", errors="backslashreplace", line_buffering=sys.stdout.isatty())
     if sys.stderr is not None:
         sys.stderr.reconfigure(errors="backslashreplace")  # type: ignore[union-attr]
     try:
-        try:
-            status = main()
-        except SystemExit as end:
-            status = int(end.code or 0)
+        status = answered(name, main, failed)
         sys.stdout.flush()
         return status
     except (OutputLost, KeyboardInterrupt) as fault:
         os.dup2(os.open(os.devnull, os.O_WRONLY), sys.stdout.fileno())
         is_stopped = isinstance(fault, KeyboardInterrupt)
-        return say(name, "stopped" if is_stopped else str(fault), STOPPED if is_stopped else OUTPUT_LOST)
-    except Refused as fault:
-        return say(name, str(fault), failed)
-    except OSError as fault:
-        return say(name, told(fault), failed)
+        return say(name, "stopped" if is_stopped else str(fault), STOPPED if is_stopped else lost)

@@ -79,10 +79,7 @@ class Choices:
 
 def part(path: Path, size: int | None = None) -> bytes:
     """A file's bytes, of which there are this many."""
-    try:
-        data = path.read_bytes()
-    except OSError as fault:
-        raise Unreadable(f"{path}: {fault.strerror}") from fault
+    data = path.read_bytes()
     if size is not None and len(data) != size:
         raise Unreadable(f"{path}: {len(data)} bytes, and {size} are wanted")
     return data

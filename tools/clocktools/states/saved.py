@@ -4,11 +4,11 @@ bytes, and else at which place; the place becomes a name."""
 
 import re
 import subprocess
-import sys
 from collections.abc import Iterable
 from dataclasses import dataclass, field
 from pathlib import Path
 
+from .. import command, files
 from ..program import program
 from .layout import FORMATS, MAGIC, MOST_CPUS, Kind, by_name, fields, length, rows
 
@@ -24,7 +24,7 @@ class Refused(Exception):
     """No board has these fields, or the target has no place for one that must not be lost: a name, and what is said of it."""
 
 
-class Unreadable(Exception):
+class Unreadable(command.Refused):
     """A file in which there is nothing to read, or a program that can't be run."""
 
 
@@ -191,15 +191,12 @@ def blank(version: int, cpus: int = 1) -> Fields:
 def read(path: str) -> bytes:
     """The last saved state of a file, or of standard input for `-`: raw bytes, hex digits, or lines of which the last `state HEX`
     counts."""
-    try:
-        data = sys.stdin.buffer.read() if path == "-" else Path(path).read_bytes()
-    except OSError as fault:
-        raise Unreadable(f"{path}: {fault.strerror}") from fault
+    data = files.read(Path(path))
     if data.startswith(MAGIC):
         return data
     text = data.decode("latin-1")
     found = next((match[1] for line in reversed(text.splitlines()) if (match := STATE_LINE.search(line))), None)
     digits = found or "".join(text.split())
     if not digits or len(digits) % 2 or not re.fullmatch("[0-9a-fA-F]+", digits):
-        raise Unreadable(f"{path}: no saved state: neither its bytes, nor their hex digits, nor a line 'state HEX'")
+        raise Unreadable(f"{files.name_of(Path(path))}: no saved state: neither its bytes, nor their hex digits, nor a line 'state HEX'")
     return bytes.fromhex(digits)
