@@ -35,6 +35,7 @@
 #include "migration/vmstate.h"
 #include "sysemu/kvm.h"
 #include "sysemu/rtc.h"
+#include "sysemu/runstate.h"
 #include "sysemu/sysemu.h"
 #include "record.h"
 
@@ -151,6 +152,14 @@ static void step(void *opaque)
 
     CALL(s, &reply, step, 0);
     settle(s, &reply, "");
+}
+
+/* The board of a guest that is stopped to be moved is at the time of the stop, with each edge until then delivered. */
+static void at_stop(void *opaque, bool running, RunState state)
+{
+    if (!running && (state == RUN_STATE_PAUSED || state == RUN_STATE_FINISH_MIGRATE || state == RUN_STATE_SAVE_VM)) {
+        step(opaque);
+    }
 }
 
 static uint8_t port_in(ClockboardState *s, uint16_t port)
@@ -420,6 +429,7 @@ static void realize(DeviceState *dev, Error **errp)
         s->state = g_malloc0(CLOCKBOARD_STATE_MAX);
         s->exit.notify = at_exit;
         qemu_add_exit_notifier(&s->exit);
+        qemu_add_vm_change_state_handler(at_stop, s);
         map_regions(s);
         qdev_connect_gpio_out(DEVICE(pit), 0, NULL); /* QEMU's own 8254 ticks on, and moves no line */
         the_board = s;

@@ -1,6 +1,7 @@
 # SPDX-License-Identifier: Apache-2.0 OR MIT
 """The man page, the completions for bash, and bin/install."""
 
+import argparse
 import os
 import re
 import shutil
@@ -10,6 +11,7 @@ import unittest
 from pathlib import Path
 
 import support
+from state_samples import tool
 
 from clocktools.documents import table
 from clocktools.program import program
@@ -25,6 +27,16 @@ def help_of(*words: str) -> str:
     return subprocess.run([program(), *words, "--help"], capture_output=True, text=True, check=True).stdout
 
 
+def jobs_of_state(words: argparse.ArgumentParser, job: tuple[str, ...] = ()) -> dict[tuple[str, ...], list[str]]:
+    """The words that each job of tools/state takes: jobs below it and options, by the words of the job."""
+    below = next((action.choices for action in words._actions if isinstance(action, argparse._SubParsersAction)), {})
+    options = [option for action in words._actions for option in action.option_strings if option.startswith("--")]
+    found = {job: sorted([*below, *options])}
+    for name, parser in below.items():
+        found |= jobs_of_state(parser, (*job, name))
+    return found
+
+
 def statuses_of(text: str) -> dict[str, str]:
     """The exit statuses of the help, each with its words."""
     rows = re.split(r"\n  (?=[0-9])", text[text.index("exit status:\n") :].split("\n\n")[0])[1:]
@@ -38,6 +50,15 @@ class Manual(unittest.TestCase):
         told = {number: " ".join(text.replace(".B ", "").split()) for number, text in found}
         self.assertEqual(told, statuses_of(help_of()))
         self.assertEqual(set(told), {name for name in table("How a run ends") if name.isdecimal()})
+
+    def test_jobs_of_state(self) -> None:
+        """The man page has each job of clockboard-state, those of qemu and kvm one by one, and no other."""
+        text = re.sub(r"\\f[A-Z]", "", MAN.read_text()).replace("\\-", "-")
+        page = text[text.index(".SH SAVED STATES") : text.index(".SH TRACES")]
+        told = {tuple(word.split()) for line in re.findall(r"^\.BI (.*)$", page, re.MULTILINE)
+                for word in re.findall(r'"([a-z][a-z -]*) "', line) if not word.startswith("-")}
+        jobs = jobs_of_state(tool().parser())
+        self.assertEqual(told, {job for job in jobs if job and job not in (("from",), ("to",))})
 
     def test_layout(self) -> None:
         if not shutil.which("groff"):
@@ -67,9 +88,11 @@ class Help(unittest.TestCase):
 
 
 class Completions(unittest.TestCase):
-    def complete(self, *words: str) -> list[str]:
-        script = '. "$1"; shift; COMP_WORDS=("$@"); COMP_CWORD=$(($# - 1)); _clockboard; printf "%s\\n" "${COMPREPLY[@]}"'
-        done = subprocess.run(["bash", "-c", script, "bash", COMPLETIONS, "clockboard", *words], capture_output=True,
+    def complete(self, *words: str, command: str = "clockboard") -> list[str]:
+        """The words that follow, by the function that the completions give the command."""
+        script = ('. "$1"; shift; COMP_WORDS=("$@"); COMP_CWORD=$(($# - 1)); how="$(complete -p "${1##*/}")"; how="${how##*-F }"; "${how% *}"; '
+                  'printf "%s\\n" "${COMPREPLY[@]}"')
+        done = subprocess.run(["bash", "-c", script, "bash", COMPLETIONS, command, *words], capture_output=True,
                               text=True, check=True)
         return done.stdout.split()
 
@@ -79,6 +102,16 @@ class Completions(unittest.TestCase):
         self.assertEqual(self.complete("replay", "--"), ["--state", "--help"])
         self.assertEqual(self.complete("gen", "--"), ["--help"])
         self.assertEqual(self.complete("replay", "<", "t"), [])
+
+    def test_words_of_state(self) -> None:
+        """Each job and option of tools/state, and no other, for clockboard-state and for the repository's bin/clockboard."""
+        for job, words in jobs_of_state(tool().parser()).items():
+            self.assertEqual(sorted(self.complete(*job, "", command="clockboard-state")), words, job)
+            self.assertEqual(sorted(self.complete("state", *job, "", command=str(support.TOP / "bin/clockboard"))), words, job)
+
+    def test_the_installed_program_has_no_job_state(self) -> None:
+        self.assertIn("state", self.complete("", command=str(support.TOP / "bin/clockboard")))
+        self.assertNotIn("state", self.complete(""))
 
     def test_each_is_a_word_of_the_program(self) -> None:
         for word in self.complete(""):
@@ -122,9 +155,9 @@ class Install(unittest.TestCase):
                 "include/clockboard/record.h", "include/clockboard/shared.h",
                 "include/clockboard/state_fields.h", "include/clockboard/kvm_state.h", "lib/cmake/clockboard/clockboard-config-version.cmake",
                 "lib/cmake/clockboard/clockboard-config.cmake", "lib/libclockboard.a", *shared,
-                "lib/pkgconfig/clockboard.pc", "share/bash-completion/completions/clockboard",
+                "lib/pkgconfig/clockboard.pc", "share/bash-completion/completions/clockboard", "share/bash-completion/completions/clockboard-state",
                 "share/doc/clockboard/LICENSE-APACHE", "share/doc/clockboard/LICENSE-MIT",
-                "share/doc/clockboard/examples/demo.c", *monitor, "share/man/man1/clockboard.1",
+                "share/doc/clockboard/examples/demo.c", *monitor, "share/man/man1/clockboard-state.1", "share/man/man1/clockboard.1",
                 "share/man/man3/clockboard.3"]))
             version = subprocess.run([top / "bin/clockboard", "--version"], capture_output=True, text=True, check=True)
             self.assertTrue(version.stdout.startswith("clockboard "))

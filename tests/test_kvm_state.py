@@ -10,18 +10,20 @@ import tempfile
 import unittest
 from dataclasses import replace
 from pathlib import Path
+from typing import Any
 
 import support
 from state_samples import boards, everything, run_tool, running, saved
 
 from clocktools.states.counters import Channel, counter_from, counter_to
 from clocktools.states.editing import move_account
-from clocktools.states.kvm import (CHANNEL, CLOCK, CURRENT, DIVIDE, INITIAL, LAPIC, LVT, MSR, Choices, Kvm, Processor, from_kvm, pit_packed,
-                                   to_kvm)
+from clocktools.states.kvm import (CHANNEL, CLOCK, CURRENT, DIVIDE, HOST_TSC, INITIAL, LAPIC, LVT, MSR, REALTIME, Choices, Kvm, Processor,
+                                   apic_from, from_kvm, pit_packed, pit_unpacked, to_kvm)
 from clocktools.states.layout import POLICIES, fields
-from clocktools.states.saved import Fields, Losses, blank, encoded, judged, packed, unjudged
+from clocktools.states.saved import Fields, Losses, ask, blank, encoded, judged, packed, unjudged
 
 ARCHIVE = support.TOP / "release/libclockboard-x86_64-linux.a"
+RECORDED = json.loads((support.HERE / "streams/kvm_pit.json").read_text())
 CASES = 60
 COMPILERS = (("gcc", "-std=c11", "-x", "c"), ("g++", "-std=c++17", "-x", "c++"))
 SANITIZED = ("-O1", "-g", "-D_POSIX_C_SOURCE=200809L", "-fsanitize=address,undefined", "-fno-sanitize-recover", "-Wall", "-Wextra", "-Werror",
@@ -217,6 +219,55 @@ def words_of(folder: Path, values: Fields) -> list[str]:
 
 
 
+class Recorded(unittest.TestCase):
+    """Counter 2 of KVM's own 8254, recorded by tests/streams/kvm_pit.c in modes 0, 2, 3 and 4."""
+
+    def taken(self, told: dict[str, Any]) -> tuple[Fields, Losses]:
+        """The state of a structure, by a counter of nanoseconds."""
+        channels, flags = pit_unpacked(bytes.fromhex(told["pit2"]))
+        losses, now_ns = Losses(), told["monotonic_ns"]
+        kvm = Kvm(channels, flags, now_ns, HOST_TSC, 0, now_ns, {"tsc_khz": 1_000_000, "monotonic_ns": now_ns}, [Processor(b"", {}, 0)])
+        return from_kvm(blank(2), kvm, Choices(version=2), losses), losses
+
+    def counts_at(self, values: Fields, times: list[int]) -> list[int]:
+        """What the board shows of counter 2 at these times."""
+        records = [f"0 {time} {words}" for time in times for words in ("out 43 80", "in 42", "in 42")]
+        read = [block.reply[0] for block in ask(encoded(values), records).blocks if block.reply]
+        return [int(high + low, 16) for low, high in zip(read[::2], read[1::2])]
+
+    def test_counts(self) -> None:
+        """Each count that the guest read is one of the board's between the times before and after the reading."""
+        for told in RECORDED:
+            with self.subTest(mode=told["mode"]):
+                values, _ = self.taken(told)
+                period = values["pit.counter2.count_register"] if told["mode"] in (2, 3) else 65536
+                self.assertEqual(values["pit.counter2.control"], 0x30 | told["mode"] << 1)
+                counts = self.counts_at(values, [time for begin, end, _ in told["readings"] for time in (begin, end)])
+                for first, last, (begin, end, count) in zip(counts[::2], counts[1::2], told["readings"], strict=True):
+                    self.assertLess(end - begin, 10**9 * period // 1193182, "a window of more than a period")
+                    self.assertLessEqual((first - count) % period, (first - last) % period, (first, count, last))
+
+    def test_counter_0_has_no_load_time(self) -> None:
+        for told in RECORDED:
+            channels, _ = pit_unpacked(bytes.fromhex(told["pit2"]))
+            self.assertNotEqual(channels[2].count_load_time, 0)
+            self.assertIn("pit.counter0.count", [name for name, _ in self.taken(told)[1].lossy])
+
+
+class LocalApic(unittest.TestCase):
+    """Rows of the current count: KVM goes on from it; where it is 0 a periodic timer begins anew and a one-shot is over."""
+
+    def test_current(self) -> None:
+        for lvt, initial, current, wanted, is_told in ((0x20041, 1000, 400, 400, False), (0x20041, 1000, 0, 1000, True), (0x41, 1000, 400, 400, False),
+                                                       (0x41, 1000, 0, 0, False), (0x41, 1000, 2000, 1000, False), (0x40041, 1000, 400, 0, False)):
+            lapic, losses, values = bytearray(LAPIC), Losses(), blank(3)
+            for place, number in ((LVT, lvt), (INITIAL, initial), (CURRENT, current), (DIVIDE, 0xB)):
+                lapic[place : place + 4] = number.to_bytes(4, "little")
+            apic_from(values, 0, Processor(bytes(lapic), {}), losses)
+            self.assertEqual(values["cpu0.apic_timer.current"], wanted, (hex(lvt), current))
+            self.assertEqual("cpu0.apic_timer.current" in [name for name, _ in losses.lossy], is_told)
+
+
 class Folder(unittest.TestCase):
     """The files of a monitor."""
 
@@ -235,6 +286,8 @@ class Folder(unittest.TestCase):
         values = unjudged(everything(5))
         left = 50000 - (50000 - values["pit.counter2.count"]) // 2
         told = next(line for line in self.said if line.startswith("note pit.counter2.count its next period begins in "))
+        for number in (1, 2):
+            self.assertIn(f"lossy pit.counter{number}.count KVM_SET_PIT2 begins the period at the call, whatever the load time says", self.said)
         self.assertTrue(abs(int(told.split()[-2]) - left * 10**9 // 1193182) <= 839, told)
         status, lines, said = run_tool("from", "kvm", str(self.kvm), "--onto", str(self.state), "--pit0-loaded", "0")
         self.assertEqual(status, 1)
@@ -246,6 +299,12 @@ class Folder(unittest.TestCase):
                                                                                   "count_latched", "read_high_next")]
         self.assertEqual([name for name in names if values[name] != again[name]], [])
         self.assertIn("lossy cpu1.page.version it is in the guest's memory alone: 2, and the monitor puts the page again", said)
+
+    def test_time_of_day(self) -> None:
+        """With a time of day KVM adds what went by since; without one there is no flag."""
+        self.assertEqual(CLOCK.unpack((self.kvm / "clock").read_bytes())[1:4], (0, 0, 0))
+        run_tool("to", "kvm", str(self.state), str(self.kvm), "--realtime-ns", "1795953600000000007")
+        self.assertEqual(CLOCK.unpack((self.kvm / "clock").read_bytes())[1:4], (REALTIME, 0, 1795953600000000007))
 
     def test_options(self) -> None:
         words = ("from", "kvm", str(self.kvm), "--onto", str(self.state), "--page-version", "8,10,12", "--up", "apic1")

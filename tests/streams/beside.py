@@ -11,7 +11,7 @@ from clocktools.states.qemu import Source, from_qemu
 from clocktools.states.qemu_stream import Stream
 from clocktools.states.saved import Fields, Losses, at_power_on, replayed
 
-from .scenes import ACKNOWLEDGED_NS, TIME_BYTES
+from .scenes import ACKNOWLEDGED_NS, HPET_REGISTERS, TIME_BYTES
 
 HERE = Path(__file__).resolve().parent
 POLICY = "policy discard discard discard"
@@ -31,6 +31,7 @@ class Recording:
     readings: list[tuple[int, list[tuple[str, str]]]]
     rises: list[tuple[int, int]]
     lines: list[int]
+    messages: list[int] = field(default_factory=list)
 
     def source(self) -> Stream:
         return Stream(bytes.fromhex(self.stream))
@@ -54,18 +55,19 @@ class Converted:
 
 
 @cache
-def converted(one: Recording, keeps_time: bool = False) -> Converted:
+def converted(one: Recording, keeps_time: bool = False, keeps_second: bool = True, version: int = 2) -> Converted:
     """The board's counter is the virtual clock."""
     losses = Losses()
-    values = at_power_on(["cpus 1", POLICY], 2)
-    source = Source(version=2, count=one.virtual_ns, virtual_ns=one.virtual_ns, guest_khz=1_000_000, keeps_time=keeps_time)
+    values = at_power_on(["cpus 1", POLICY], version)
+    source = Source(version=version, count=one.virtual_ns, virtual_ns=one.virtual_ns, guest_khz=1_000_000, keeps_time=keeps_time,
+                    keeps_second=keeps_second)
     return Converted(from_qemu(values, one.source(), source, losses), losses)
 
 
 def records_of(time: int, what: str) -> list[str]:
     """The records by which a guest reads a clock."""
-    if what == "hpet":
-        words = ["hr f0 4"]
+    if what in HPET_REGISTERS:
+        words = [f"hr {HPET_REGISTERS[what]:x} 4"]
     elif what == "rtc":
         words = [word for place in TIME_BYTES for word in (f"out 70 {place:02x}", "in 71")]
     elif what.startswith("low"):

@@ -9,9 +9,12 @@ from .qtest import Qtest
 
 MS = 1_000_000
 TIME_BYTES = (0, 2, 4, 6, 7, 8, 9)
+HPET_REGISTERS = {"hpet": 0xF0, "isr": 0x20}
 READINGS = 24
 ACKNOWLEDGED_NS = 100_000
 """A guest reads register C so long after the rise."""
+MESSAGE_PLACE, MESSAGE_DATA = 0x5000, 0x31
+"""Where in RAM a timer of the HPET sends its messages, and what it writes there."""
 
 
 @dataclass
@@ -24,6 +27,13 @@ class Scene:
     end_ns: int
     reads: tuple[str, ...]
     lines: tuple[int, ...] = ()
+    has_messages: bool = False
+    """Whether the HPET can send messages, which are followed in the place of rises."""
+
+    @property
+    def words(self) -> tuple[str, ...]:
+        """QEMU's words for it."""
+        return ("-global", "hpet.msi=on") if self.has_messages else ()
 
 
 def set_pit(qemu: Qtest, counter: int, mode: int, count: int, access: int) -> None:
@@ -81,6 +91,10 @@ SCENES = {
     "hpet-one-shot": Scene("at 7003; hpet 10 1; at 1000003; timer 1 2904 700000; timer 2 2a04 1500000", 5 * MS + 8, 40 * MS, ("hpet",),
                            (20, 21)),
     "hpet-stopped": Scene("at 1005; hpet 10 1; at 3000009; timer 0 2804 900000; hpet 10 0", 20 * MS, 40 * MS, ("hpet",), (20,)),
+    "hpet-level": Scene("at 7003; timer 1 2806 700000; timer 2 2a06 300000; hpet 10 1", 5 * MS + 8, 40 * MS, ("hpet", "isr"), (20,)),
+    "hpet-messages": Scene(f"at 123457; hpet 110 {MESSAGE_DATA:x}; hpet 114 {MESSAGE_PLACE:x}; timer 0 400c 200000 150000; hpet 10 1",
+                           3 * MS + 7, 30 * MS, ("hpet",), has_messages=True),
+    "rtc-periodic": Scene("at 60000000; cmos a 2e; cmos b 42; at 850000000; out 70 c; in 71", 900 * MS + 123, 4000 * MS, ("rtc",), (8,)),
     "rtc-update": Scene("at 40000000; cmos b 12; at 1200000000; out 70 c; in 71", 1300 * MS + 321, 4000 * MS, ("rtc",), (8,)),
     "rtc-alarm": Scene("at 60000000; cmos 1 59; cmos 3 ff; cmos 5 c0; cmos b 22", 1300 * MS + 321, 5000 * MS, ("rtc",), (8,)),
     "rtc-leap-day": Scene("at 60000000; cmos b 86; cmos 0 3a; cmos 2 3b; cmos 4 17; cmos 6 7; cmos 7 1c; cmos 8 2; cmos 9 1c; cmos 32 14; "
@@ -118,8 +132,8 @@ def random_scene(seed: int) -> Scene:
 
 def reading(qemu: Qtest, what: str) -> str:
     """What a guest reads of a clock, in hexadecimal digits."""
-    if what == "hpet":
-        return f"{qemu.hpet_read(0xF0):08x}"
+    if what in HPET_REGISTERS:
+        return f"{qemu.hpet_read(HPET_REGISTERS[what]):08x}"
     if what == "rtc":
         found = ""
         for place in TIME_BYTES:
@@ -141,6 +155,18 @@ def times(scene: Scene) -> list[int]:
         number = (number * 6364136223846793005 + 1442695040888963407) % 2**64
         found.append(scene.save_ns + (scene.end_ns - scene.save_ns) * step // READINGS + (number >> 40) % 9973)
     return [time for time in found if time <= scene.end_ns]
+
+
+def follow_messages(qemu: Qtest, scene: Scene) -> list[int]:
+    """When the HPET's timer 0 sends its messages."""
+    found: list[int] = []
+    qemu.command(f"writel {MESSAGE_PLACE:#x} 0")
+    while qemu.now_ns < scene.end_ns:
+        qemu.command("clock_step")
+        if int(qemu.command(f"readl {MESSAGE_PLACE:#x}")[0], 0) == MESSAGE_DATA:
+            found.append(qemu.now_ns)
+            qemu.command(f"writel {MESSAGE_PLACE:#x} 0")
+    return [time for place, time in enumerate(found) if time <= scene.end_ns and (not place or time - found[place - 1] > 10)]
 
 
 def follow(qemu: Qtest, scene: Scene) -> list[tuple[int, int]]:

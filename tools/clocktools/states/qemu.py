@@ -8,10 +8,10 @@ from .kvm import DIVIDE_BITS, LVT_BITS, MODE_BITS
 from .layout import TICK_COUNTS, timers_of
 from .meaning import PIT_HZ, SECOND
 from .pages import fill_hyperv, fill_processor, fill_wall
-from .qemu_hpet import hpet_from, hpet_to
-from .qemu_rtc import rtc_from, rtc_to, seconds_of
+from .qemu_hpet import hpet_from, hpet_to, silence_hpet
+from .qemu_rtc import rtc_from, rtc_to, seconds_of, silence_rtc
 from .qemu_stream import Stream
-from .saved import Fields, Losses, Refused, Unreadable
+from .saved import Fields, Losses, Refused, Unreadable, ask
 from .timebase import Aligned, Phases, aligned, board_now, scaled, tsc_at
 
 CLOCK, TICKS = "cpu_clock_offset", "cpu_ticks_offset"
@@ -310,12 +310,23 @@ def state_of_device(stream: Stream) -> bytes:
     return data[: int.from_bytes(stream.bytes_of(DEVICE, "state_length"), "big")]
 
 
+def at_save(data: bytes, clock: int, losses: Losses) -> bytes:
+    """The state that the device saved, at the virtual clock of its stream: it is that of the board after its last access."""
+    answer = ask(data, [f"0 {clock} step"])
+    for _, at_ns, line, direction in answer.blocks[0].edges:
+        if direction == "up":
+            losses.say(f"line{line}.rises", f"it rose at {at_ns} ns, after the device's last access: that interrupt is lost")
+    return answer.after
+
+
 def for_device(data: bytes, stream: Stream) -> bytes:
     """The template as a stream of a machine with the device of qemu/, whose board has this state. The board's counter is the virtual
-    clock, in nanoseconds."""
+    clock, in nanoseconds. QEMU's own devices are still there, and move no line: the device has taken the 8254's."""
     if stream.has(DEVICE):
         raise Unreadable("the template has a section of the device already")
     memory = stream.bytes_of("mc146818rtc", "cmos_data")[:DEVICE_BYTES]
+    silence_hpet(stream)
+    silence_rtc(stream)
     lower_lines(stream)
     parts = [("state_length", len(data).to_bytes(4, "big")), ("state", data), ("firmware", memory)]
     return stream.with_section(DEVICE, DEVICE_VERSION, parts)

@@ -104,6 +104,14 @@ def timer_to(values: Fields, stream: Stream, number: int, virtual_ns: int) -> No
     stream.put(SECTION, there + "qemu_timer", expiry(values, number, virtual_ns))
 
 
+def silence_hpet(stream: Stream) -> None:
+    """Has no timer of QEMU's own HPET fire. The counter runs on, so that the section keeps the place of its offset."""
+    for number in range(timers_in(stream) if stream.has(SECTION) else 0):
+        at = f"timer[{number}]."
+        stream.put(SECTION, at + "config", stream.get(SECTION, at + "config") & ~ON)
+        stream.put(SECTION, at + "qemu_timer", NEVER)
+
+
 def hpet_to(values: Fields, stream: Stream, virtual_ns: int, losses: Losses) -> None:
     """Writes the section. One whose counter runs needs a template in which it ran, which has a place for the offset."""
     if not stream.has(SECTION):

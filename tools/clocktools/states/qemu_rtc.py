@@ -35,7 +35,7 @@ def set_divider(values: Fields, divider: int) -> None:
 def keep_periodic(values: Fields, stream: Stream, clock_ns: int, keeps_second: bool, phase_ns: int, losses: Losses) -> int:
     """One divider gives the second and the periodic events, which are apart in QEMU: one is kept. Gives how long ago the last pulse was."""
     period, divider = period_of(values["rtc.a"]), values["rtc.divider"]
-    theirs = stream.get(SECTION, "next_periodic_time") - 1 - clock_ns
+    theirs = stream.get(SECTION, "next_periodic_time") - clock_ns
     ours = time_of(period - divider % period, RTC_HZ) - phase_ns
     if keeps_second:
         losses.say("rtc.divider", f"the second is kept: the next periodic event comes {ours - theirs:+d} ns from the source's")
@@ -82,6 +82,13 @@ def rtc_from(values: Fields, stream: Stream, clock_ns: int | None, keeps_second:
     if data[CENTURY]:
         losses.note("rtc.ram32", "the century is memory: it doesn't follow a turn of the century")
     return phase
+
+
+def silence_rtc(stream: Stream) -> None:
+    """Has QEMU's own MC146818 ask for no interrupt."""
+    data = bytearray(stream.bytes_of(SECTION, "cmos_data"))
+    data[B] &= ~FLAGS
+    stream.put(SECTION, "cmos_data", bytes(data))
 
 
 def seconds_of(values: Fields) -> int:
