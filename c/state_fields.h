@@ -150,8 +150,8 @@ static inline uint64_t clockboard_number(const uint8_t *state, size_t length, co
 }
 
 /* Fills a setup with what a state has of it: rates, policies, format, processors, the wall clock, as the start the anchor's count and
- * time, and the MC146818's time bytes of now, in the form of register B (a power on takes BCD and 24 hours alone). 1, or 0 where the
- * bytes are no state's. The setup makes another board, which begins anew. */
+ * time, and the MC146818's time bytes of now, in the form of register B (at power on they are read as BCD and 24 hours). 1, or 0 where
+ * the bytes are no state's. The setup makes another board, which begins anew. */
 static inline int clockboard_setup_of(const uint8_t *state, size_t length, struct clockboard_setup *setup) {
     unsigned format, cpus;
     if (!clockboard_state_shape(state, length, &format, &cpus)) return 0;

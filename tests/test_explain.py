@@ -132,8 +132,8 @@ class Mistakes(unittest.TestCase):
         done = support.run("explain", "-", text="clockboard 1\nrtc 61 59 11 00 14 11 a3\nbegin\nend\n")
         self.assertEqual((done.returncode, done.stderr), (0, ""))
         self.assertEqual(done.stdout.splitlines()[1:], [
-            "remark: line 2: 61 is no second, 00 is no day of the week, a3 is no year, by two decimal digits; a trace takes any "
-            "byte, and the clock counts on from it; clockboard_power_on of the C library refuses such bytes"])
+            "remark: line 2: 61 is no second, 00 is no day of the week, a3 is no year, by two decimal digits; any byte is "
+            "taken, here and by clockboard_power_on of the C library, and the clock counts on from it"])
 
     def test_packed(self) -> None:
         with tempfile.TemporaryDirectory() as folder:

@@ -55,7 +55,21 @@ static uint8_t decimal(int number) {
     return (uint8_t)(number / 10 * 16 + number % 10);
 }
 
-/* The time bytes of seconds since 1970, against the C library's; and which bytes power on refuses. */
+/* A byte of the MC146818, as a guest reads it. */
+static uint64_t clock_byte(uint64_t host, uint8_t index) {
+    clockboard_port_write(&board, 0, host, 0x70, index, &reply);
+    clockboard_port_read(&board, 0, host, 0x71, &reply);
+    return reply.answer == CLOCKBOARD_OK ? reply.value[0] : UINT64_MAX;
+}
+
+/* Second, hour, day of the week, date and month of a board. */
+static int clock_shows(uint64_t host, const uint8_t time[5]) {
+    return clock_byte(host, 0) == time[0] && clock_byte(host, 4) == time[1] && clock_byte(host, 6) == time[2]
+           && clock_byte(host, 7) == time[3] && clock_byte(host, 8) == time[4];
+}
+
+/* The time bytes of seconds since 1970, against the C library's; and bytes that spell no time, which are kept as they are until
+ * the first update counts each of them as its lowest value. */
 static void calendar(void) {
     const uint64_t end = UINT64_C(4107542400);
     struct clockboard_setup setup = CLOCKBOARD_SETUP_INIT, as_it_was;
@@ -75,22 +89,22 @@ static void calendar(void) {
     expect(clockboard_setup_at(&setup, end) == CLOCKBOARD_OUT_OF_RANGE && memcmp(&setup, &as_it_was, sizeof setup) == 0,
            "March 2100");
     clockboard_power_on(&board, &setup, &reply);
-    clockboard_port_write(&board, 0, 0, 0x70, 7, &reply);
-    clockboard_port_read(&board, 0, 0, 0x71, &reply);
-    expect(reply.answer == CLOCKBOARD_OK && reply.value[0] == 0x28, "the date that a guest reads");
+    expect(clock_byte(0, 7) == 0x28, "the date that a guest reads");
     static const struct {
-        uint8_t sec, hour, wday, date, month;
-    } invalid[] = {{0x5a, 0, 1, 1, 1}, {0x60, 0, 1, 1, 1}, {0, 0x24, 1, 1, 1}, {0, 0, 0, 1, 1},
-                   {0, 0, 1, 0, 1},    {0, 0, 1, 1, 0},    {0, 0, 1, 0x29, 2}, {0, 0, 1, 0x31, 4}};
+        uint8_t kept[5], counted[5];
+    } odd[] = {{{0x5a, 0, 1, 1, 1}, {1, 0, 1, 1, 1}}, {{0x61, 0, 1, 1, 1}, {1, 0, 1, 1, 1}}, {{0, 0x24, 1, 1, 1}, {1, 0, 1, 1, 1}},
+               {{0, 0, 0, 1, 1}, {1, 0, 1, 1, 1}},    {{0, 0, 1, 0, 1}, {1, 0, 1, 1, 1}},    {{0, 0, 1, 1, 0}, {1, 0, 1, 1, 1}},
+               {{0, 0, 1, 0x29, 2}, {1, 0, 1, 1, 2}}, {{0, 0, 1, 0x31, 4}, {1, 0, 1, 1, 4}}};
     setup.year = 0x01;
-    for (size_t k = 0; k < sizeof invalid / sizeof invalid[0]; k++) {
-        setup.sec = invalid[k].sec;
-        setup.hour = invalid[k].hour;
-        setup.wday = invalid[k].wday;
-        setup.date = invalid[k].date;
-        setup.month = invalid[k].month;
+    for (size_t k = 0; k < sizeof odd / sizeof odd[0]; k++) {
+        setup.sec = odd[k].kept[0];
+        setup.hour = odd[k].kept[1];
+        setup.wday = odd[k].kept[2];
+        setup.date = odd[k].kept[3];
+        setup.month = odd[k].kept[4];
         clockboard_power_on(&board, &setup, &reply);
-        expect(reply.answer == CLOCKBOARD_BAD_SETUP, "time bytes that are no time");
+        expect(reply.answer == CLOCKBOARD_OK && clock_shows(0, odd[k].kept), "time bytes that spell no time are kept");
+        expect(clock_shows(600000000, odd[k].counted), "the clock counts on from them");
     }
     setup.year = 0x04;
     setup.date = 0x29;

@@ -7,7 +7,7 @@ mod device;
 mod timing;
 
 use crate::USAGE;
-use device::Device;
+use device::{DEVICES, Device, Kind, ROWS};
 use std::io;
 use std::rt::Clock;
 use timing::{sum_of_answers, time_stretch};
@@ -34,7 +34,7 @@ pub(crate) fn run(rt: &(impl Print + Clock), word: &[u8]) -> io::Result<()> {
 
 /// Prints the word of each row and how many calls it makes.
 fn print_rows(rt: &impl Print) -> io::Result<()> {
-    for (word, _, _) in device::rows() {
+    for (word, _, _) in ROWS {
         println!(rt; "{word} {CALLS}")?;
     }
     Ok(())
@@ -42,10 +42,9 @@ fn print_rows(rt: &impl Print) -> io::Result<()> {
 
 /// Makes the calls of the row of this word alone.
 fn run_alone(rt: &impl Print, word: &[u8]) -> io::Result<()> {
-    for (name, device, pulses) in device::rows() {
+    for (name, kind, pulses) in ROWS {
         if name.as_bytes() == word {
-            let mut device = device;
-            let answers = sum_of_answers(&mut device, pulses, CALLS);
+            let answers = sum_of_answers(&mut Device::new(kind), pulses, CALLS);
             return println!(rt; "sum of all answers: {answers}");
         }
     }
@@ -61,18 +60,18 @@ fn print_table(rt: &(impl Print + Clock)) -> io::Result<()> {
         "                                      2^4     2^40           2^4                    2^40"
     )?;
     let mut answers: u64 = 0;
-    for (name, device) in device::all() {
-        let mut device = device;
-        answers = answers.wrapping_add(print_row(rt, name, &mut device)?);
+    for (name, kind) in DEVICES {
+        answers = answers.wrapping_add(print_row(rt, name, kind)?);
     }
     // the calls' answers are used, so that no call can be left out
     println!(rt; "sum of all answers: {answers}")
 }
 
 /// Times a device over both stretches. Returns the sum of its answers.
-fn print_row(rt: &(impl Print + Clock), name: &str, device: &mut Device) -> io::Result<u64> {
-    let few = time_stretch(rt, device, FEW)?;
-    let many = time_stretch(rt, device, MANY)?;
+fn print_row(rt: &(impl Print + Clock), name: &str, kind: Kind) -> io::Result<u64> {
+    let mut device = Device::new(kind);
+    let few = time_stretch(rt, &mut device, FEW)?;
+    let many = time_stretch(rt, &mut device, MANY)?;
     println!(rt;
         "{name:<32}{:>9}{:>9}{:>14}{:>24}",
         few.nanoseconds_a_call(),

@@ -1,8 +1,6 @@
 -- Small rows of what the definitions give.
 use Rattle.std.proofs.Common.{◌≡◌, ℕ, true, false, refl, ◌∷◌, [], Some, map}
 use Rattle.irq_edges.specs.Lines.{line_numbers}
-use Rattle.rtc_calendar.specs.Bytes.{spelt, is_spelt, has_digits}
-use Rattle.rtc_calendar.specs.Calendar.{month_length}
 use Rattle.host_counter.specs.declared.Anchor.{Anchor}
 use Rattle.tsc_scale.specs.Offset.{tsc_by}
 use Rattle.hv_page.specs.Time.{reference_time, units_of}
@@ -23,7 +21,7 @@ use Rattle.clockboard_c.specs.States.{save_code}
 use Rattle.clockboard_c.specs.Calendar.{setup_at, setup_at_code}
 use Rattle.clockboard_c.specs.Look.{lines_word}
 use Rattle.clockboard_c.specs.Replies.{value_words, burst_words}
-use Rattle.clockboard_c.specs.Setup.{setup_valid}
+use Rattle.clockboard_c.specs.Setup.{setup_of, setup_valid}
 use Rattle.clockboard_c.specs.Timer.{count_of}
 
 -- a counter of 3 GHz that began at count 500, and one of 100 MHz
@@ -84,19 +82,17 @@ plain = record {
 setups : map setup_valid
     (plain ∷ record plain { cpus = 17 } ∷ record plain { cpus = 17; format = 2 } ∷ record plain { hpet_policy = 3 } ∷ [])
     ≡ true ∷ false ∷ true ∷ false ∷ []
-unfolding spelt is_spelt has_digits month_length
 setups = refl
 
--- with this hour, date, month and year
-abbrev at : ℕ → ℕ → ℕ → ℕ → SetupWords
-at hour date month year = record plain { hour = hour; date = date; month = month; year = year }
+-- time bytes that spell no time: second 61h, hour 24h, a digit that isn't decimal, month 0, 31 April; and they are kept
+any_time : map setup_valid
+    (record plain { sec = 0x61 } ∷ record plain { hour = 0x24 } ∷ record plain { min = 0x0a } ∷ record plain { month = 0 }
+    ∷ record plain { date = 0x31; month = 4 } ∷ [])
+    ≡ true ∷ true ∷ true ∷ true ∷ true ∷ []
+any_time = refl
 
--- a leap day, and none; April 31; hour 24; a digit that isn't decimal; month 0
-calendars : map setup_valid
-    (at 0x23 0x29 0x02 0x04 ∷ at 0x23 0x29 0x02 0x01 ∷ at 0 0x31 0x04 0 ∷ at 0x24 0x01 0x01 0 ∷ at 0x0a 0x01 0x01 0 ∷ at 0 0x01 0 0 ∷ [])
-    ≡ true ∷ false ∷ false ∷ false ∷ false ∷ false ∷ []
-unfolding spelt is_spelt has_digits month_length
-calendars = refl
+second_kept : (setup_of (record plain { sec = 0x61 })).time.sec ≡ 0x61
+second_kept = refl
 
 -- 1970 began on a Thursday
 the_epoch : setup_at 0 plain ≡ record plain { wday = 5; year = 0x70 }

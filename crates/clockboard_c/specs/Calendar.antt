@@ -1,9 +1,7 @@
 -- The time bytes of a setup (MC146818 data sheet, "Time, calendar, and alarm locations").
-use Rattle.std.specs.Prelude.{ℕ, Bool, true, false, ◌&&◌, nat_lt, if◌then◌else◌}
+use Rattle.std.specs.Prelude.{ℕ, true, false, nat_lt, if◌then◌else◌}
 use Rattle.rtc_calendar.specs.declared.Form.{Form}
 use Rattle.rtc_calendar.specs.declared.TimeBytes.{TimeBytes}
-use Rattle.rtc_calendar.specs.Bytes.{spelt, is_spelt}
-use Rattle.rtc_calendar.specs.Calendar.{month_length}
 use Rattle.rtc_calendar.specs.Updates.{updated_times}
 use Rattle.clockboard_c.specs.declared.calendar.TheConstants.{MARCH_2100}
 use Rattle.clockboard_c.specs.declared.code.TheConstants.{OK, OUT_OF_RANGE}
@@ -12,13 +10,6 @@ use Rattle.clockboard_c.specs.declared.power_on.SetupWords.{SetupWords}
 -- how the bytes spell numbers at power on: in BCD, hours of 24 (own)
 abbrev pub form_at_power_on : Form
 form_at_power_on = record { binary = false; hours24 = true }
-
--- each byte is valid in this form, the date at most the month's length
-abbrev pub time_valid : TimeBytes → Bool
-time_valid t =
-    is_spelt false 0 59 t.sec && is_spelt false 0 59 t.min && is_spelt false 0 23 t.hour
-    && is_spelt false 1 7 t.wday && is_spelt false 1 12 t.month && is_spelt false 0 99 t.year
-    && is_spelt false 1 (month_length (spelt false t.year) (spelt false t.month)) t.date
 
 -- midnight of 1 January 1970, a Thursday
 abbrev pub epoch : TimeBytes

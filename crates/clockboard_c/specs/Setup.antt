@@ -19,7 +19,6 @@ use Rattle.board_core.specs.PowerOn.{board_at_power_on}
 use Rattle.clockboard_c.specs.Kept.{CallerBoard}
 use Rattle.clockboard_c.specs.declared.code.TheConstants.{BAD_SETUP}
 use Rattle.clockboard_c.specs.declared.power_on.SetupWords.{SetupWords}
-use Rattle.clockboard_c.specs.Calendar.{time_valid}
 use Rattle.clockboard_c.specs.Call.{sealed}
 use Rattle.clockboard_c.specs.Replies.{Told, refused, taken, no_value}
 
@@ -39,17 +38,13 @@ time_of s = record {
   year = s.year;
 }
 
--- whether each number is in its range
-abbrev pub in_range : SetupWords → Bool
-in_range s =
+-- whether each number is in its range; a time byte may have any value
+abbrev pub setup_valid : SetupWords → Bool
+setup_valid s =
     nat_le 1 s.format && nat_le s.format LAST_FORMAT && is_rate s.host_khz && nat_lt s.base_ns RANGE_NS
     && is_rate s.guest_khz && nat_le 1 s.cpus && nat_le s.cpus (processors_of s.format)
     && nat_le 1 s.slew_ns && nat_le s.slew_ns SLEW_MAX_NS && nat_lt s.wall_nsec SECOND_NS
     && nat_le s.pit_policy 2 && nat_le s.rtc_policy 2 && nat_le s.hpet_policy 2
-
--- .. and the time bytes valid
-abbrev pub setup_valid : SetupWords → Bool
-setup_valid s = in_range s && time_valid (time_of s)
 
 -- the setup of these numbers
 abbrev pub setup_of : SetupWords → Setup

@@ -1,10 +1,10 @@
-//! The time bytes of a setup: which are valid, and those of a time since 1970.
+//! The time bytes of a setup by a time since 1970.
 ghost use Rattle.std.specs.Prelude.{◌≡◌};
-ghost use Rattle.clockboard_c.specs.Calendar.{time_valid, setup_at_code, setup_at};
+ghost use Rattle.clockboard_c.specs.Calendar.{setup_at_code, setup_at};
 
 use crate::code::{OK, OUT_OF_RANGE};
 use crate::power_on::SetupWords;
-use rtc_calendar::{Form, TimeBytes, after, is_spelt, month_length, spelt};
+use rtc_calendar::{Form, TimeBytes, after};
 
 /// How the bytes spell numbers at power on, as register B is 02h.
 const FORM: Form = Form {
@@ -45,18 +45,4 @@ pub extern "C" fn clockboard_setup_at(setup: &mut SetupWords, seconds: u64) -> u
     setup.month = time.month;
     setup.year = time.year;
     OK
-}
-
-/// Whether each byte is valid at power on, and the date at most the month's length.
-pub(crate) fn time_valid(time: TimeBytes) -> bool
-    ensures { result ≡ time_valid time }
-{
-    let days = month_length(spelt(false, time.year), spelt(false, time.month));
-    is_spelt(false, 0, 59, time.sec)
-        && is_spelt(false, 0, 59, time.min)
-        && is_spelt(false, 0, 23, time.hour)
-        && is_spelt(false, 1, 7, time.wday)
-        && is_spelt(false, 1, 12, time.month)
-        && is_spelt(false, 0, 99, time.year)
-        && is_spelt(false, 1, days, time.date)
 }

@@ -7,14 +7,12 @@ ghost use Rattle.clockboard_c.specs.Replies.{IsReply};
 ghost use Rattle.clockboard_c.specs.Setup.{
   setup_of,
   time_of,
-  in_range,
   setup_valid,
   power_on_told,
   powered_on,
 };
 
 use crate::board::{Board, sealed};
-use crate::calendar::time_valid;
 use crate::code::BAD_SETUP;
 use crate::reply::{NO_VALUE, ReplyWords};
 use board_core::BoardState;
@@ -50,7 +48,7 @@ pub struct SetupWords {
     pub rtc_policy: u8,
     pub hpet_policy: u8,
     /// The time of the MC146818 in BCD, as it holds it: seconds, minutes, hour of 24, day of the week (1 is Sunday), date,
-    /// month, year of the century.
+    /// month, year of the century. Bytes that spell no time are kept as they are, and the clock counts on from them.
     pub sec: u8,
     pub min: u8,
     pub hour: u8,
@@ -76,17 +74,9 @@ pub extern "C" fn clockboard_power_on(board: &mut Board, setup: &SetupWords, rep
     reply.take(0, now_ns, NO_VALUE, &[], &[]);
 }
 
-/// Whether each number of a setup is in its range, and the time bytes valid.
+/// Whether each number of a setup is in its range. A time byte may have any value.
 fn is_valid(s: &SetupWords) -> bool
     ensures value { result ≡ setup_valid s.now }
-    ensures valid { IsTrue result → IsSetup (setup_of s.now) }
-{
-    in_range(s) && time_valid(time_of(s))
-}
-
-/// Whether each number of a setup is in its range.
-fn in_range(s: &SetupWords) -> bool
-    ensures value { result ≡ in_range s.now }
     ensures valid { IsTrue result → IsSetup (setup_of s.now) }
 {
     1 <= s.format

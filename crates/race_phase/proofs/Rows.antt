@@ -1,5 +1,5 @@
--- Small rows that pin the definitions: what a record and the end of a phase print, and which entries
--- answer the calls of a processor.
+-- Examples that are computed: what the definitions print for a record of each kind and for the end of a phase, and which entries
+-- of a history answer the calls of a processor. A definition that is changed by mistake makes one of them false.
 use Rattle.std.proofs.Common.{◌≡◌, ℕ, List, [], ◌∷◌, true, false, Bool, map, refl}
 use Rattle.std.specs.Prelude.{codes}
 use Rattle.std.specs.Fmt.{digits}

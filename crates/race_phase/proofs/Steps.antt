@@ -33,6 +33,15 @@ use Rattle.race_phase.specs.private.Working.{IsWorking}
 use Rattle.race_phase.proofs.Workers.{records_of-append, records_skip, records_take, stopped_more, waits_printed, waits_stopped}
 
 module _ (s : BoardParts) (ds : Deliveries) (n : ℕ) where
+  -- room for more text
+  pub step_room : {N : Type 0} (rs : List Record) (w z : Working N) → z ≡ record w { text = z.text } → z.text.items ≡ w.text.items
+      → IsWorking s ds n rs w → IsWorking s ds n rs z
+  step_room rs w z is text x = subst (IsWorking s ds n rs) (sym is) (record {
+    number = x.number;
+    going = λ e. subst (λ (ys : List ℕ). AllButLast s ds n (records_of n rs) w.waiting.items ys w.pass) (sym text) (x.going e);
+    stopped = x.stopped;
+  })
+
   module _ {N : Type 0} (rs : List Record) (r : Record) where
     -- a record of another processor
     pub step_skip : (w : Working N) → r.cpu ≢ n → IsWorking s ds n rs w → IsWorking s ds n (rs ++ r ∷ []) w

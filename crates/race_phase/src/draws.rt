@@ -10,7 +10,7 @@ const ADDEND: u64 = 1_442_695_040_888_963_407;
 const HIGH: u32 = 33;
 
 /// Random numbers, which differ from run to run once they were stirred by a number that does.
-#[derive(Clone, Copy, Debug)]
+#[derive(Clone, Copy)]
 pub(crate) struct Draws {
     state: u64,
 }

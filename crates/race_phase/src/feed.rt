@@ -122,7 +122,7 @@ impl<'a, F: Feeding> Model for Taken<'a, F> {
 }
 
 /// Where a part is: its piece, and which part of the piece it is.
-#[derive(Clone, Copy, Debug, PartialEq, Eq)]
+#[derive(Clone, Copy)]
 pub(crate) struct Spot {
     pub(crate) piece: usize,
     pub(crate) part: usize,
@@ -191,32 +191,30 @@ impl<F: Feeding> Feed<F> {
         self.opening.value(&opened.token)
     }
 
-    /// Waits for a piece.
-    pub(crate) fn take<R: Wait>(&self, rt: &R, at: usize) -> Result<Shown<'_, F>, Halt>
-        ensures { IfOk result (λ s. s.at ≡ at) }
+    /// Waits for a piece, and gives it with what shows it.
+    pub(crate) fn take<'a, R: Wait>(
+        &'a self,
+        rt: &R,
+        at: usize,
+    ) -> Result<(Shown<'a, F>, &'a Piece), Halt>
+        ensures { IfOk result (λ t. t.1.now ≡ t.0.piece) }
     {
         let Some(cell) = self.pieces.get(at) else {
             return Err(Halt::Closed);
         };
         let _ = cell.wait(rt);
         match cell.witness() {
-            Some(token) => Ok(Shown {
-                at,
-                token,
-                marker: PhantomData,
-            }),
+            Some(token) => {
+                let piece = cell.value(&token);
+                let shown = Shown {
+                    at,
+                    token,
+                    marker: PhantomData,
+                };
+                Ok((shown, piece))
+            }
             None => Err(Halt::Closed),
         }
-    }
-
-    /// A piece.
-    pub(crate) fn piece<'a>(&'a self, shown: &Shown<'a, F>) -> Result<&'a Piece, Halt>
-        ensures { IfOk result (λ p. p.now ≡ shown.now.piece) }
-    {
-        let Some(cell) = self.pieces.get(shown.at) else {
-            return Err(Halt::Closed);
-        };
-        Ok(cell.value(&shown.token))
     }
 }
 

@@ -140,8 +140,8 @@ fn apart_in<F: Feeding, R: Wait>(
     from: Spot,
     allowance: &mut Allowance,
 ) -> Result<u64, Halt> {
-    let shown = feed.take(rt, from.piece)?;
-    match feed.piece(&shown)?.part(from.part) {
+    let (_shown, piece) = feed.take(rt, from.piece)?;
+    match piece.part(from.part) {
         Some(part) => Ok(allowance.apart(part)),
         None => Err(Halt::Closed),
     }

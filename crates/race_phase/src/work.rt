@@ -1,12 +1,12 @@
 //! One worker: it takes the records of one processor.
-ghost use Rattle.std.specs.Prelude.{◌≡◌, ◌<◌, [], IfOk};
+ghost use Rattle.std.specs.Prelude.{◌≡◌, ◌<◌, ◌++◌, [], ◌∷◌, IfOk};
 ghost use Rattle.race_phase.specs.Parts.{IsPart, part_at};
 ghost use Rattle.shared_board.specs.Passes.{mine};
 ghost use Rattle.race_phase.specs.private.Feed.{HasRun};
 
 use crate::feed::{Feed, Feeding, Spot, Taken};
 use crate::halt::Halt;
-use crate::pace::{FEW, Pace};
+use crate::pace::Pace;
 use crate::piece::{Part, Piece};
 use crate::worker::Worker;
 use crate::working::Working;
@@ -49,39 +49,43 @@ pub(crate) fn work<'a, N: Name, F: Feeding, R: Wait, G: Gate>(
     ensures { IfOk result (λ w. HasRun N.state worker.now.deliveries.now
         w.taken.items w.end pass.number w.pass w.text.items) }
 {
-    let cpu = pass.number();
     let mut working = Working::new(alloc, pass)?;
     let mut taken = Vec::new(alloc);
     let mut at = from;
     for done in 0..MOST_PARTS {
-        let shown = feed.take(worker.rt, at.piece)?;
-        let piece = feed.piece(&shown)?;
-        let part = fitting_part(piece, worker.cpus, worker.format, at.part)?;
-        let left = left_of(part, cpu).saturating_add(working.waits());
-        if done == 0 {
-            working.make_room(left);
-            pace.start(worker.rt, left);
-        }
-        working.take(worker, pace, &part.records, left)?;
-        let end = part.end;
-        let next = after(piece, at);
-        let Ok(()) = taken.push(Taken::of(shown, at.part)) else {
-            return Err(Halt::NoMemory);
-        };
-        at = next;
-        if let Some(end) = end {
-            working.answer(worker)?;
+        let part = next_part(worker, feed, &mut at, &mut taken)?;
+        working.take_part(worker, pace, part, done == 0)?;
+        if let Some(end) = part.end {
             let Working { pass, text, .. } = working;
             return Ok(Worked {
                 pass,
                 text,
                 taken,
                 end,
-                next,
+                next: at,
             });
         }
     }
     Err(Halt::Closed)
+}
+
+/// Waits for the part at a place, and adds it to those that were taken. The place is then that of the next part.
+fn next_part<'a, N: Name, F: Feeding, R: Wait, G>(
+    worker: &Worker<'_, N, R, G>,
+    feed: &'a Feed<F>,
+    at: &mut Spot,
+    taken: &mut Vec<Taken<'a, F>>,
+) -> Result<&'a Part, Halt>
+    ensures more { IfOk result (λ p. taken.new.items ≡ taken.old.items ++ p.now ∷ []) }
+    ensures fits { IfOk result (λ p. IsPart worker.now.cpus worker.now.format p.now) }
+{
+    let (shown, piece) = feed.take(worker.rt, at.piece)?;
+    let part = fitting_part(piece, worker.cpus, worker.format, at.part)?;
+    let Ok(()) = taken.push(Taken::of(shown, at.part)) else {
+        return Err(Halt::NoMemory);
+    };
+    *at = after(piece, *at);
+    Ok(part)
 }
 
 /// A part that fits a board of so many processors and this format, where there is one.
@@ -95,15 +99,6 @@ fn fitting_part(piece: &Piece, cpus: u8, format: u8, index: usize) -> Result<&Pa
     match piece.part(index) {
         Some(part) => Ok(part),
         None => Err(Halt::Closed),
-    }
-}
-
-/// How many records of a processor are left: many, where the part doesn't end its phase.
-fn left_of(part: &Part, cpu: u64) -> u64 {
-    let own = part.records.count_of(cpu);
-    match part.end {
-        Some(_) => own,
-        None => own.saturating_add(FEW),
     }
 }
 

@@ -1,5 +1,5 @@
 //! What one worker has done of a phase.
-ghost use Rattle.std.specs.Prelude.{◌≡◌, ◌<◌, ◌≤◌, ◌+◌, ◌^◌, ℕ, [], ◌++◌, All, List, IfOk, OnOk, false, length};
+ghost use Rattle.std.specs.Prelude.{◌≡◌, ◌<◌, ◌≤◌, ◌+◌, ◌^◌, ℕ, [], ◌++◌, All, List, IfOk, IfSome, OnOk, false, length};
 ghost use Rattle.board_history.specs.History.{IsLegal};
 ghost use Rattle.shared_board.specs.Passes.{mine};
 ghost use Rattle.trace_blocks.specs.declared.deliveries.Deliveries.{Deliveries};
@@ -8,8 +8,9 @@ ghost use Rattle.trace_blocks.specs.declared.records.Record.{Record};
 ghost use Rattle.race_phase.specs.private.Working.{IsReady, IsWorking};
 
 use crate::batch::{Halted, Place, new_places, print_all};
-use crate::pace::{MOST_AT_ONCE, Pace};
+use crate::pace::{FEW, MOST_AT_ONCE, Pace};
 use crate::packed::RecordList;
+use crate::piece::Part;
 use crate::worker::Worker;
 use board_io::Gate;
 use clk_units::NoMemory;
@@ -56,12 +57,12 @@ impl<N: Name> Working<N> {
     }
 
     /// How many records wait.
-    pub(crate) fn waits(&self) -> u64 {
+    fn waits(&self) -> u64 {
         self.waiting.len() as u64
     }
 
     /// Makes room for the blocks of so many records. Where there is no memory for it, the text grows as they are appended.
-    pub(crate) fn make_room(&mut self, records: u64)
+    fn make_room(&mut self, records: u64)
         ensures rest { self.new ≡ record self.old { text = self.new.text } }
         ensures text { self.new.text.items ≡ self.old.text.items }
     {
@@ -70,9 +71,42 @@ impl<N: Name> Working<N> {
             .reserve(records.saturating_mul(BLOCK_LEN) as usize);
     }
 
+    /// Takes the records of the pass's processor in a part, and answers all where the part ends its phase. Before the first part
+    /// of a phase it makes room for their blocks, and waits for the other workers at the start line.
+    pub(crate) fn take_part<R: Wait, G: Gate>(
+        &mut self,
+        worker: &Worker<'_, N, R, G>,
+        pace: &mut Pace<'_>,
+        part: &Part,
+        is_first: bool,
+    ) -> Result<(), NoMemory>
+        requires ready { IsReady N.state self.old }
+        requires fitting { All (IsFitting N.state.cpus N.state.format) part.now.records }
+        requires few { self.old.answered + length self.old.waiting.items + length part.now.records
+            < 2 ^ 63 }
+        ensures ready { OnOk result (IsReady N.state self.new) }
+        ensures few { OnOk result (self.new.answered + length self.new.waiting.items
+            ≤ self.old.answered + length self.old.waiting.items + length part.now.records) }
+        ensures done { OnOk result ((n : ℕ) (rs : List Record)
+            → IsWorking N.state worker.now.deliveries.now n rs self.old
+            → IsWorking N.state worker.now.deliveries.now n (rs ++ part.now.records) self.new) }
+        ensures none { OnOk result (IfSome part.now.end (λ _. self.new.waiting.items ≡ [])) }
+    {
+        let left = left_of(part, self.pass.number()).saturating_add(self.waits());
+        if is_first {
+            self.make_room(left);
+            pace.start(worker.rt, left);
+        }
+        self.take(worker, pace, &part.records, left)?;
+        if part.end.is_none() {
+            return Ok(());
+        }
+        self.answer(worker)
+    }
+
     /// Takes the records of the pass's processor in order: takes a few, asks for the lock, and appends their blocks when
     /// it has given the lock back. So many are left, with those that wait.
-    pub(crate) fn take<R: Wait, G: Gate>(
+    fn take<R: Wait, G: Gate>(
         &mut self,
         worker: &Worker<'_, N, R, G>,
         pace: &mut Pace<'_>,
@@ -110,10 +144,7 @@ impl<N: Name> Working<N> {
     }
 
     /// Answers the records that wait, and appends their blocks. Then none waits.
-    pub(crate) fn answer<R: Wait, G: Gate>(
-        &mut self,
-        worker: &Worker<'_, N, R, G>,
-    ) -> Result<(), NoMemory>
+    fn answer<R: Wait, G: Gate>(&mut self, worker: &Worker<'_, N, R, G>) -> Result<(), NoMemory>
         requires places { length self.old.places.items ≡ 16 }
         requires most { length self.old.waiting.items ≤ 16 }
         requires small { self.old.answered + length self.old.waiting.items < 2 ^ 64 }
@@ -143,5 +174,14 @@ impl<N: Name> Working<N> {
         }
         self.waiting.clear();
         Ok(())
+    }
+}
+
+/// How many records of a processor are left: many, where the part doesn't end its phase.
+fn left_of(part: &Part, cpu: u64) -> u64 {
+    let own = part.records.count_of(cpu);
+    match part.end {
+        Some(_) => own,
+        None => own.saturating_add(FEW),
     }
 }

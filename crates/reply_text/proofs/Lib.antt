@@ -2,4 +2,3 @@ pub mod Hexes
 pub mod Ups
 mod Rows
 pub mod Fronts
-pub mod EdgeLines

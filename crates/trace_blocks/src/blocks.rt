@@ -24,7 +24,8 @@ pub(crate) fn event_lines(
     message_lines(&reply.bursts, deliveries, out)
 }
 
-/// Appends the block of an access: its edges, its messages, and its line. Where `counted` is given it prints the line. After an `Err` the text begins as it was.
+/// Appends the block of an access: its edges, its messages, and its line. Where `counted` is given it prints the line. After
+/// an `Err` the text begins as it was.
 #[inline(always)]
 #[tactic(auto, unfolding(crate::specs::Blocks::block_of))]
 pub fn access_block(

@@ -4,6 +4,7 @@ ghost use Rattle.std.specs.Option.{option_map};
 ghost use Rattle.std.specs.Io.{StartsWith};
 ghost use Rattle.clk_units.specs.Ranges.{IsKhz};
 ghost use Rattle.transfer.specs.Move.{move_fault, moved_to};
+ghost use Rattle.trace_blocks.specs.declared.ends.End.TheVariants.{Move};
 ghost use Rattle.trace_blocks.specs.declared.faults.Cause.TheVariants.{Move as ByMove};
 ghost use Rattle.trace_blocks.specs.Blocks.{edges_text, messages_text};
 ghost use Rattle.trace_blocks.specs.Ends.{at_line};
@@ -84,13 +85,35 @@ pub fn end_phase(
             }
             Err(refusal) => Ok(refused(line, Cause::Access { refusal })),
         },
-        End::Move { line, cpu, h, host } => {
-            let mut stepped = *board;
-            match stepped.access(cpu, h, Access::Step) {
-                Ok(reply) => cross_gap(line, &reply, host, &stepped, board, deliveries, out),
-                Err(refusal) => Ok(refused(line, Cause::Access { refusal })),
-            }
-        }
+        End::Move { line, cpu, h, host } => move_board(line, cpu, h, host, board, deliveries, out),
+    }
+}
+
+/// Does a move. It is apart from the other ends, as it alone takes a copy of the board.
+#[inline(never)]
+fn move_board(
+    line: u64,
+    cpu: u8,
+    h: u64,
+    host: NewHost,
+    board: &mut BoardState,
+    deliveries: &Deliveries,
+    out: &mut Vec<u8>,
+) -> Result<Option<Fault>, NoMemory>
+    requires end { IsEnd board.old.cpus (Move line cpu h host) }
+    ensures fault { IfOk result (λ f. f ≡ end_fault board.old (Move line cpu h host)) }
+    ensures board { IfOk result
+        (λ f. IfNone f (board.new ≡ next_board (Move line cpu h host) board.old)) }
+    ensures text { IfOk result (λ f. IfNone f (out.new.items
+        ≡ out.old.items ++ end_text deliveries.now (Move line cpu h host) board.old)) }
+    ensures refused { IfOk result (λ f. IfSome f (λ _. out.new.items ≡ out.old.items)) }
+    ensures unchanged { IfOk result (λ f. IfSome f (λ _. board.new ≡ board.old)) }
+    ensures err { OnErr result (StartsWith out.new.items out.old.items) }
+{
+    let mut stepped = *board;
+    match stepped.access(cpu, h, Access::Step) {
+        Ok(reply) => cross_gap(line, &reply, host, &stepped, board, deliveries, out),
+        Err(refusal) => Ok(refused(line, Cause::Access { refusal })),
     }
 }
 

@@ -12,7 +12,7 @@ const START: &[u8] = b"0 0 hw 10 4 1\n";
 const END: &[u8] = b"end\n";
 
 /// What was made last.
-#[derive(Clone, Copy, Debug, PartialEq, Eq)]
+#[derive(Clone, Copy)]
 pub(crate) enum Stage {
     /// Nothing: the header comes.
     Header,
@@ -25,7 +25,7 @@ pub(crate) enum Stage {
 }
 
 /// The place in a generated trace.
-#[derive(Clone, Copy, Debug, PartialEq, Eq)]
+#[derive(Clone, Copy)]
 pub(crate) struct Course {
     pub(crate) stage: Stage,
     /// How many processors the trace has.

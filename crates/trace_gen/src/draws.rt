@@ -15,7 +15,7 @@ const SPREAD: u64 = 100_000;
 const KINDS: u64 = 16;
 
 /// The place in a sequence.
-#[derive(Clone, Copy, Debug, PartialEq, Eq)]
+#[derive(Clone, Copy)]
 pub(crate) struct Draws {
     /// Its last number; at first the key.
     pub(crate) state: u64,

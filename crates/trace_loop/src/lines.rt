@@ -53,7 +53,7 @@ const STATE: &[u8] = b"state ";
 const PIECE: usize = 16384;
 
 /// Where the present line stops in the bytes that are left.
-#[derive(Clone, Copy, Debug, PartialEq, Eq)]
+#[derive(Clone, Copy)]
 pub(crate) enum Found {
     /// It ends after that many bytes.
     End(usize),

@@ -27,7 +27,7 @@ pub(crate) struct Soak {
 }
 
 /// What a soak prints.
-#[derive(Clone, Copy, Debug, PartialEq, Eq)]
+#[derive(Clone, Copy)]
 pub(crate) struct Sum {
     pub(crate) records: u64,
     pub(crate) edges: u64,

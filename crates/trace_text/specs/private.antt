@@ -4,3 +4,4 @@ pub mod State
 pub mod Lines
 pub mod Reads
 pub mod Fronts
+pub mod SetupLines

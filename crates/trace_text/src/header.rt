@@ -3,6 +3,7 @@ ghost use Rattle.std.specs.Prelude.{◌≡◌, ◌<◌, ◌≤◌, ◌++◌, Ok,
 ghost use Rattle.board_types.specs.Setup.{IsSetup};
 ghost use Rattle.board_types.specs.declared.setup.TheConstants.{LAST_FORMAT};
 ghost use Rattle.trace_text.specs.Rows.{by_table, left_by};
+ghost use Rattle.trace_text.specs.private.SetupLines.{set_by, other_rows};
 ghost use Rattle.trace_text.specs.declared.header.TheConstants.{ROUTE_ROW};
 ghost use Rattle.trace_text.specs.Header.{
   head_of,
@@ -17,8 +18,8 @@ ghost use Rattle.trace_text.specs.Header.{
   board_of,
 };
 
-use crate::header_lines::{cpus, guest, host, policies, rtc, slew, wall};
 use crate::records::Body;
+use crate::setup_line::SetupLine;
 use crate::words::Words;
 use board_core::BoardState;
 use board_types::{LAST_FORMAT, Setup};
@@ -149,59 +150,49 @@ impl Head {
     }
 
     /// The next line of a header without a saved state.
-    fn first_line(&mut self, mut setup: Setup, words: &mut Words<'_>) -> Result<(), Reason>
+    fn first_line(&mut self, setup: Setup, words: &mut Words<'_>) -> Result<(), Reason>
         requires valid { IsHead self.old }
         requires setup { IsSetup setup }
         ensures head { by_table (first_rows self.old setup ++ later_rows self.old setup) words.old
             ≡ left_by result self.new }
         ensures valid { OnOk result (IsHead self.new) }
     {
-        if words.takes(b"host") {
-            self.in_order(HOST_ROW)?;
-            host(&mut setup, words)?;
-            self.set_up(HOST_ROW, setup);
-        } else if words.takes(b"guest") {
-            self.in_order(GUEST_ROW)?;
-            guest(&mut setup, words)?;
-            self.set_up(GUEST_ROW, setup);
-        } else if words.takes(b"cpus") {
-            self.in_order(CPUS_ROW)?;
-            cpus(&mut setup, words)?;
-            self.set_up(CPUS_ROW, setup);
-        } else if words.takes(b"policy") {
-            self.in_order(POLICY_ROW)?;
-            policies(&mut setup, words)?;
-            self.set_up(POLICY_ROW, setup);
-        } else {
-            return self.later_line(setup, words);
+        match SetupLine::named(words) {
+            Some(line) => self.setup_line(line, setup, words),
+            None => self.other_line(setup.format, words),
         }
+    }
+
+    /// A line that sets something up. It comes after those that stand before it in the order.
+    fn setup_line(
+        &mut self,
+        line: SetupLine,
+        mut setup: Setup,
+        words: &mut Words<'_>,
+    ) -> Result<(), Reason>
+        requires valid { IsHead self.old }
+        requires setup { IsSetup setup }
+        ensures head { set_by self.old setup line words.old ≡ left_by result self.new }
+        ensures valid { OnOk result (IsHead self.new) }
+    {
+        self.in_order(line.row())?;
+        line.read(&mut setup, words)?;
+        self.set_up(line.row(), setup);
         Ok(())
     }
 
-    fn later_line(&mut self, mut setup: Setup, words: &mut Words<'_>) -> Result<(), Reason>
+    /// A saved state, or a line that may follow it.
+    fn other_line(&mut self, format: u8, words: &mut Words<'_>) -> Result<(), Reason>
         requires valid { IsHead self.old }
-        requires setup { IsSetup setup }
-        ensures head { by_table (later_rows self.old setup) words.old ≡ left_by result self.new }
+        requires format { format ≤ LAST_FORMAT }
+        ensures head { by_table (other_rows self.old format) words.old ≡ left_by result self.new }
         ensures valid { OnOk result (IsHead self.new) }
     {
-        if words.takes(b"slew") {
-            self.in_order(SLEW_ROW)?;
-            slew(&mut setup, words)?;
-            self.set_up(SLEW_ROW, setup);
-        } else if words.takes(b"wall") {
-            self.in_order(WALL_ROW)?;
-            wall(&mut setup, words)?;
-            self.set_up(WALL_ROW, setup);
-        } else if words.takes(b"rtc") {
-            self.in_order(RTC_ROW)?;
-            rtc(&mut setup, words)?;
-            self.set_up(RTC_ROW, setup);
-        } else if words.takes(b"state") {
-            self.state(setup.format, words)?;
+        if words.takes(b"state") {
+            self.state(format, words)
         } else {
-            return self.last_line(words);
+            self.last_line(words)
         }
-        Ok(())
     }
 
     /// A route, the one line that may follow a saved state.

@@ -24,6 +24,7 @@ mod header_lines;
 mod jobs;
 mod reading;
 mod records;
+mod setup_line;
 mod state;
 mod usual;
 mod words;

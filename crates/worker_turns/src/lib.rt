@@ -1,8 +1,8 @@
 //! How the workers of a race meet: they begin together, and take turns where few of their records are left.
 //!
-//! A race is told by its numbers: who was first is left to the host. So that records of different workers do fall beside
-//! each other, no worker begins before all have come, and the last records of each begin in turns that each draws. No wait is
-//! without an end: where a worker is late, the others go on without it.
+//! The numbers of the accesses, which a race prints, say in which order the workers were answered, and the host decides that
+//! order. So that records of different workers do fall beside each other, no worker begins before all have come, and the last
+//! records of each begin in turns that each draws. No wait is without an end: where a worker is late, the others go on without it.
 //!
 //! ```text
 //! let schedule = Schedule::new(2);                // workers 0 and 1

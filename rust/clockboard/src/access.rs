@@ -44,7 +44,7 @@ pub struct Setup {
     /// And nanoseconds, below 1,000,000,000.
     pub wall_nsec: u32,
     /// The bytes of the MC146818 in BCD: seconds, minutes, hour of 24, day of the week (1 is Sunday), date, month, year of
-    /// the century. Bytes that are no such time are refused.
+    /// the century. Bytes that spell no time are kept as they are, and the clock counts on from them.
     pub time: [u8; 7],
 }
 

@@ -113,10 +113,6 @@ fn setups_out_of_range() {
             ..setup.clone()
         },
         Setup {
-            time: [0; 7],
-            ..setup.clone()
-        },
-        Setup {
             host_khz: 99_999,
             ..setup.clone()
         },
@@ -254,6 +250,30 @@ fn a_later_format_counts_rises() {
     assert_eq!(rises.value(), 1);
 }
 
+/// The time bytes of the MC146818 as a guest reads them at a count.
+fn time_bytes(board: &mut Board, host: u64) -> [u64; 7] {
+    [0, 2, 4, 6, 7, 8, 9].map(|byte| {
+        let index = Access::PortWrite { port: 0x70, byte };
+        board.access(0, host, index).unwrap();
+        let read = Access::PortRead { port: 0x71 };
+        board.access(0, host, read).unwrap().value()
+    })
+}
+
+/// Time bytes that spell no time are kept as they are. The first update, 501.98 ms after power on, counts each as its lowest value.
+#[test]
+fn time_bytes_that_spell_no_time() {
+    for time in [[0; 7], [0x61, 0x5a, 0x24, 8, 0x32, 0x13, 0xff]] {
+        let setup = Setup {
+            time,
+            ..Setup::default()
+        };
+        let mut board = Board::power_on(&setup).unwrap();
+        assert_eq!(time_bytes(&mut board, 0), time.map(u64::from));
+        assert_eq!(time_bytes(&mut board, 600_000_000), [1, 0, 0, 1, 1, 1, 0]);
+    }
+}
+
 /// The wall clock, the base time and the bytes of the MC146818 come from the setup.
 #[test]
 fn times_of_a_setup() {
@@ -266,20 +286,7 @@ fn times_of_a_setup() {
     };
     let mut board = Board::power_on(&setup).unwrap();
     assert_eq!(board.access(0, 0, Access::Step).unwrap().now_ns(), 7_000);
-    for (index, byte) in [0, 2, 4, 6, 7, 8, 9].into_iter().zip(setup.time) {
-        board
-            .access(
-                0,
-                0,
-                Access::PortWrite {
-                    port: 0x70,
-                    byte: index,
-                },
-            )
-            .unwrap();
-        let reply = board.access(0, 0, Access::PortRead { port: 0x71 }).unwrap();
-        assert_eq!(reply.value(), u64::from(byte), "index {index}");
-    }
+    assert_eq!(time_bytes(&mut board, 0), setup.time.map(u64::from));
     let publish = Access::MsrWrite {
         msr: 0x4b56_4d00,
         value: 0x9000,
