@@ -1,0 +1,4 @@
+pub mod Bits
+pub mod Times
+pub mod Writes
+mod Rows

@@ -1,0 +1,4 @@
+pub mod Parts
+pub mod Stretch
+pub mod Registers
+pub mod private

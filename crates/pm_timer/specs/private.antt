@@ -1,0 +1,2 @@
+-- What only proofs and bodies need.
+pub mod Stretch
