@@ -5,10 +5,8 @@ ghost use Rattle.std.specs.Prelude.{
   ◌<◌,
   ◌++◌,
   length,
-  IsTrue,
   OnOk,
   OnErr,
-  OnSome,
   vec_len,
   vec_capacity,
 };
@@ -19,12 +17,11 @@ use clk_units::NoMemory;
 use edge_hooks::Delivery;
 use irq_edges::Edge;
 
-/// The line of an edge: its nanosecond, its line and its direction; with a delivery also the processor and the
-/// vector that the rise goes to. A fall has none.
+/// The line of an edge: its nanosecond, its line and its direction; with a delivery, which only a rise has, also the
+/// processor and the vector that it goes to.
 #[inline(always)]
 #[tactic(auto, unfolding(crate::specs::Text::edge_text))]
 pub fn edge_line(edge: &Edge, to: Option<Delivery>, out: &mut Vec<u8>) -> Result<(), NoMemory>
-    requires { OnSome to (IsTrue edge.now.up) }
     ensures ok { OnOk result (out.new.items ≡ out.old.items ++ edge_text edge.now to) }
     ensures err { OnErr result (out.new.items ≡ out.old.items) }
     ensures full { OnErr result (vec_capacity out.old
