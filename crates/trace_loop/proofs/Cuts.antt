@@ -33,7 +33,7 @@ use Rattle.std.proofs.Common.{
   length-take,
 }
 use Rattle.std.proofs.lemmas.Bool.{eq-eqb, eqb-true}
-use Rattle.std.proofs.lemmas.List.{drop-take, drop-drop}
+use Rattle.std.proofs.lemmas.List.{drop-take, drop-drop, take-take}
 use Rattle.std.specs.Str.{bytes_eq}
 use Rattle.std.proofs.lemmas.Slice.Eq.{bytes_eq-Decides}
 use Rattle.memchr.specs.Find.{IsFirstByte, is_byte}
@@ -63,6 +63,14 @@ drop_part piece left from to n low is there =
     let parts : n + (to - (from + n)) ≡ to - from = omega arith in
     ap (take (to - (from + n))) (sym (drop-drop n from piece)) ∙ sym (drop-take n (to - (from + n)) (drop from piece))
     ∙ ap (λ (m : ℕ). drop n (take m (drop from piece))) parts ∙ ap (drop n) is
+
+-- the first n bytes of it
+pub take_part : (piece left : List ℕ) (from to n : ℕ) → take (to - from) (drop from piece) ≡ left → n ≤ length left
+    → take (from + n - from) (drop from piece) ≡ take n left
+take_part piece left from to n is there =
+    let within : n ≤ to - from = omega (arith, length-take (to - from) (drop from piece), ap length is) in
+    let long : from + n - from ≡ n = omega arith in
+    ap (λ (m : ℕ). take m (drop from piece)) long ∙ sym (take-take n (to - from) (drop from piece) within) ∙ ap (take n) is
 
 -- where the search stopped at a byte, it is the end
 pub found_at : (rest : List ℕ) (end : Option ℕ) (n : ℕ) → IsFirstByte (is_byte 10) rest end → end ≡ Some n → (n < length rest) × (slice_index rest n ≡ 10)
