@@ -163,7 +163,7 @@ impl Head {
         }
     }
 
-    /// A line that sets something up. It comes after those that stand before it in the order.
+    /// A line that sets something up. The lines come in a fixed order: each has a higher number than the one before it.
     fn setup_line(
         &mut self,
         line: SetupLine,
