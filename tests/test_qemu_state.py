@@ -16,7 +16,7 @@ from streams.scenes import MESSAGE_DATA, MESSAGE_PLACE
 from clocktools.states.meaning import mode_of
 from clocktools.states.qemu import at_save, for_device, state_of_device, to_qemu
 from clocktools.states.qemu_stream import Stream
-from clocktools.states.saved import Fields, Losses, Refused, encoded, unjudged
+from clocktools.states.saved import Fields, Losses, StateRefused, encoded, unjudged
 from clocktools.states.timebase import tsc_at
 
 PULSE_NS = range(837, 841)
@@ -286,7 +286,7 @@ class Machines(unittest.TestCase):
     def test_processors(self) -> None:
         values, _, _ = self.taken("tcg-7.2-4-processors")
         _, _, data = self.taken("kvm-7.2-2-processors")
-        with self.assertRaisesRegex(Refused, "cpus 4, and the template has 2"):
+        with self.assertRaisesRegex(StateRefused, "cpus 4, and the template has 2"):
             to_qemu(values, Stream(data), None, None, Losses())
 
 

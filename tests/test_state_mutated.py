@@ -13,7 +13,7 @@ from state_samples import boards
 
 from clocktools.states import printing
 from clocktools.states.layout import by_name, length, rows
-from clocktools.states.saved import Refused, heading
+from clocktools.states.saved import StateRefused, heading
 
 COUNT = int(os.environ.get("MUTATED_STATES") or ("1500" if "CLOCKBOARD" in os.environ else "100"))
 AT_A_TIME = 3
@@ -82,7 +82,7 @@ def fault_of(number: int) -> str:
     place = by_the_program(data)
     try:
         lines = printing.state_lines(data, is_whole=True)
-    except Refused as fault:
+    except StateRefused as fault:
         if place is None:
             return f"{number}: the program takes it, and print refuses {fault}"
         return "" if names_place(str(fault), data, place) else f"{number}: place {place}, and print names {fault}"

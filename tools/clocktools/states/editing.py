@@ -7,7 +7,7 @@ import re
 
 from .layout import FLAGS, LINES, POLICIES, Kind, by_name, tick_lines
 from .looking import look
-from .saved import Fields, Losses, Refused, encoded, unjudged
+from .saved import Fields, Losses, StateRefused, encoded, unjudged
 
 FIRST_VERSION = 2
 """Of a page that was published once."""
@@ -60,9 +60,9 @@ def set_datetime(values: Fields, text: str) -> None:
     try:
         moment = datetime.datetime.fromisoformat(text)
     except ValueError:
-        raise Refused(f"rtc.datetime {text}") from None
+        raise StateRefused(f"rtc.datetime {text}") from None
     if moment.year // 100 != 20 or moment.tzinfo:
-        raise Refused(f"rtc.datetime {text}")
+        raise StateRefused(f"rtc.datetime {text}")
     form = values["rtc.b"]
 
     def byte(number: int) -> int:
@@ -78,7 +78,7 @@ def set_tsc(values: Fields, data: bytes, cpu: int, number: int) -> None:
     """The offset with which a processor's TSC reads this number now."""
     offset, now = f"cpu{cpu}.tsc_offset", look(data).tsc[cpu]
     if now is None:
-        raise Refused(f"accesses {values['accesses']}, so that the TSC can't be asked for")
+        raise StateRefused(f"accesses {values['accesses']}, so that the TSC can't be asked for")
     values[offset] = (unjudged(data)[offset] + number - now) % 2**64
 
 
@@ -104,7 +104,7 @@ def raise_lines(values: Fields, names: list[str]) -> None:
         apic = f"cpu{name[4:]}.apic_timer"
         found = [apic] if name.startswith("apic") else owners.get(int(name), [])[:1] if name.isdecimal() else []
         if not found or f"{found[0]}.ticks.up" not in values:
-            raise Refused(f"--up {name} no tick line of the board's has it")
+            raise StateRefused(f"--up {name} no tick line of the board's has it")
         values[f"{found[0]}.ticks.up"] = 1
 
 
@@ -122,11 +122,11 @@ def set_one(values: Fields, data: bytes, name: str, text: str, losses: Losses) -
         return
     is_flag = f"{owner}.flags" in known and bit in FLAGS
     if name not in known and not is_flag and not (tsc and int(tsc[1]) < values["cpus"]):
-        raise Refused(f"{name} no such field")
+        raise StateRefused(f"{name} no such field")
     if name in ("format", "cpus"):
-        raise Refused(f"{name} {text}, as the state has {values[name]}")
+        raise StateRefused(f"{name} {text}, as the state has {values[name]}")
     if number is None or is_flag and number not in (0, 1) or tsc and not 0 <= number < 2**64:
-        raise Refused(f"{name} {text}")
+        raise StateRefused(f"{name} {text}")
     if tsc:
         set_tsc(values, data, int(tsc[1]), number)
     elif is_flag:

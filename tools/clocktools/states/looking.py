@@ -5,7 +5,7 @@ from dataclasses import dataclass
 
 from .layout import LAST_VERSION
 from .meaning import datetime_of
-from .saved import Block, Fields, Refused, ask, heading, unjudged
+from .saved import Block, Fields, StateRefused, ask, heading, unjudged
 
 
 @dataclass
@@ -36,7 +36,7 @@ def look(data: bytes, first: list[str] | None = None, count: int | None = None) 
         questions.append(f"0 {count} hv")
     try:
         answer = ask(data, [*(first or []), *questions, f"0 {count} next"])
-    except Refused as fault:
+    except StateRefused as fault:
         if first or not str(fault).startswith("spent "):
             raise
         return Clocks(ask(data, []).now_ns, [None] * cpus, [None] * cpus, None, None, [], unjudged(data))

@@ -7,7 +7,7 @@ from typing import Any
 from .layout import Field, Kind, by_name, fields
 from .looking import Clocks, derived, look
 from .meaning import datetime_of, difference, meaning, shown, signed
-from .saved import Fields, Refused, ask, blank, unjudged
+from .saved import Fields, StateRefused, ask, blank, unjudged
 
 ALWAYS_SHOWN = ("format", "cpus", "host.khz")
 WORDS = (Kind.POLICY, Kind.FLAGS)
@@ -96,9 +96,9 @@ def compared(first: bytes, second: bytes, runs: bool) -> tuple[list[Change], lis
     one, other = unjudged(first), unjudged(second)
     if runs:
         if one["host.khz"] != other["host.khz"]:
-            raise Refused("host.khz two hosts' rates")
+            raise StateRefused("host.khz two hosts' rates")
         if after.now_ns < before.now_ns:
-            raise Refused("host.greatest_count the second state is the older")
+            raise StateRefused("host.greatest_count the second state is the older")
         first = ran_to(first, after.now_ns)
         one, before = unjudged(first), look(first)
     alike = (one["format"], one["cpus"]) == (other["format"], other["cpus"])

@@ -11,7 +11,7 @@ from .pages import fill_hyperv, fill_processor, fill_wall
 from .qemu_hpet import hpet_from, hpet_to, silence_hpet
 from .qemu_rtc import rtc_from, rtc_to, seconds_of, silence_rtc
 from .qemu_stream import Stream
-from .saved import Fields, Losses, Refused, Unreadable, ask
+from .saved import Fields, Losses, StateRefused, Unreadable, ask
 from .timebase import Aligned, Phases, aligned, board_now, scaled, tsc_at
 
 CLOCK, TICKS = "cpu_clock_offset", "cpu_ticks_offset"
@@ -239,9 +239,9 @@ def put_cpu(values: Fields, stream: Stream, cpu: int, name: str, told: int, loss
     if path is not None:
         stream.put("cpu", path, told, instance)
     elif told and name == "tsc_deadline":
-        raise Refused(f"cpu{cpu}.apic_timer.deadline {told}: the template has no place for it")
+        raise StateRefused(f"cpu{cpu}.apic_timer.deadline {told}: the template has no place for it")
     elif told and name in ("system_time_msr", "wall_clock_msr", "msr_hv_tsc"):
-        raise Refused(f"{ {'system_time_msr': f'cpu{cpu}.page.msr', 'wall_clock_msr': 'wall.msr'}.get(name, 'hv.msr') } {told:x}h: "
+        raise StateRefused(f"{ {'system_time_msr': f'cpu{cpu}.page.msr', 'wall_clock_msr': 'wall.msr'}.get(name, 'hv.msr') } {told:x}h: "
                       "the template has no place for it")
     elif told:
         losses.say(f"cpu{cpu}.{name}", f"{told:x}h: the template has no place for it")
@@ -250,7 +250,7 @@ def put_cpu(values: Fields, stream: Stream, cpu: int, name: str, told: int, loss
 def processors_to(values: Fields, stream: Stream, virtual_ns: int, losses: Losses) -> None:
     """Writes the sections cpu, kvmclock and apic, and TCG's TSC."""
     if len(cpus_of(stream)) != values["cpus"]:
-        raise Refused(f"cpus {values['cpus']}, and the template has {len(cpus_of(stream))}")
+        raise StateRefused(f"cpus {values['cpus']}, and the template has {len(cpus_of(stream))}")
     count, is_kvm = values["host.greatest_count"], stream.has("kvmclock")
     for cpu in range(values["cpus"]):
         tsc = tsc_at(values, cpu, count)
@@ -268,7 +268,7 @@ def processors_to(values: Fields, stream: Stream, virtual_ns: int, losses: Losse
     else:
         stream.put("timer", TICKS, tsc_at(values, 0, count))
         if any(values[f"cpu{cpu}.page.msr"] & 1 for cpu in range(values["cpus"])):
-            raise Refused("cpu0.page.msr is enabled, and the template has no section kvmclock")
+            raise StateRefused("cpu0.page.msr is enabled, and the template has no section kvmclock")
 
 
 def say_accounts(values: Fields, losses: Losses) -> None:

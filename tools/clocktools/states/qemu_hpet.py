@@ -5,7 +5,7 @@ them; a board keeps the counter."""
 from .layout import timers_of
 from .meaning import HPET_NS
 from .qemu_stream import Stream
-from .saved import Fields, Losses, Refused
+from .saved import Fields, Losses, StateRefused
 from .timebase import board_now
 
 SECTION = "hpet"
@@ -116,13 +116,13 @@ def hpet_to(values: Fields, stream: Stream, virtual_ns: int, losses: Losses) -> 
     """Writes the section. One whose counter runs needs a template in which it ran, which has a place for the offset."""
     if not stream.has(SECTION):
         if values["hpet.config"] & 1:
-            raise Refused("hpet.config 1: the template has no HPET")
+            raise StateRefused("hpet.config 1: the template has no HPET")
         return
     there = timers_in(stream)
     if values["hpet.config"] & 1:
         offset = values["hpet.counter"] * HPET_NS + board_now(values) % HPET_NS - virtual_ns
         if not stream.put(SECTION, OFFSET, offset):
-            raise Refused("hpet.counter runs, and the template's HPET didn't: it has no place for the offset")
+            raise StateRefused("hpet.counter runs, and the template's HPET didn't: it has no place for the offset")
     for name, number in (("config", values["hpet.config"]), ("isr", values["hpet.status"] & (1 << there) - 1),
                          ("hpet_counter", values["hpet.counter"])):
         stream.put(SECTION, name, number)
@@ -130,4 +130,4 @@ def hpet_to(values: Fields, stream: Stream, virtual_ns: int, losses: Losses) -> 
         if timer < there:
             timer_to(values, stream, timer, virtual_ns)
         elif values[f"hpet.timer{timer}.config"] & ON:
-            raise Refused(f"hpet.timer{timer}.config is on, and the target has {there} timers")
+            raise StateRefused(f"hpet.timer{timer}.config is on, and the target has {there} timers")

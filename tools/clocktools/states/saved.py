@@ -10,7 +10,7 @@ from pathlib import Path
 
 from .. import command, files
 from ..program import program
-from .layout import FORMATS, MAGIC, MOST_CPUS, Kind, by_name, fields, length, rows
+from .layout import FORMATS, MAGIC, MOST_CPUS, Kind, fields, length, rows
 
 Fields = dict[str, int]
 """The numbers of a state by their names."""
@@ -20,7 +20,7 @@ HEADER_LINES = 3
 """Of a question: the format, the state, `begin`."""
 
 
-class Refused(Exception):
+class StateRefused(Exception):
     """No board has these fields, or the target has no place for one that must not be lost: a name, and what is said of it."""
 
 
@@ -112,7 +112,7 @@ def packed(values: Fields) -> bytes:
         try:
             data += values[one.name].to_bytes(one.size, "little", signed=one.kind is Kind.SIGNED)
         except OverflowError:
-            raise Refused(f"{one.name} {values[one.name]}") from None
+            raise StateRefused(f"{one.name} {values[one.name]}") from None
     return bytes(data)
 
 
@@ -142,7 +142,7 @@ def decoded(data: bytes) -> Fields:
     """The fields of a saved state, or a refusal."""
     place = judged(data)
     if place is not None:
-        raise Refused(at_fault(data, place))
+        raise StateRefused(at_fault(data, place))
     return unjudged(data)
 
 
@@ -151,7 +151,7 @@ def encoded(values: Fields, good: Fields | None = None) -> bytes:
     data = packed(values)
     place = judged(data)
     if place is not None:
-        raise Refused(at_fault(data, place, good))
+        raise StateRefused(at_fault(data, place, good))
     return data
 
 
@@ -161,9 +161,9 @@ def ask(data: bytes, records: list[str]) -> Answer:
     said = replayed([f"clockboard {shape[0] if shape else FORMATS[-1]}", f"state {data.hex()}", "begin", *records, "end"])
     place = place_of_fault(data, said)
     if place is not None:
-        raise Refused(at_fault(data, place))
+        raise StateRefused(at_fault(data, place))
     if said[-1].startswith("refused "):
-        raise Refused(" ".join(said[-1].split()[2:]))
+        raise StateRefused(" ".join(said[-1].split()[2:]))
     blocks: list[Block] = [Block()]
     for line in said[:-2]:
         words = line.split()
@@ -179,7 +179,7 @@ def at_power_on(header: Iterable[str], version: int) -> Fields:
     """The fields of the board that a trace's header makes."""
     said = replayed([f"clockboard {version}", *header, "begin", "end"])
     if said[-1].startswith("refused "):
-        raise Refused(" ".join(said[-1].split()[2:]))
+        raise StateRefused(" ".join(said[-1].split()[2:]))
     return unjudged(bytes.fromhex(said[-1].split()[1]))
 
 
