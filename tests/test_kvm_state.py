@@ -2,7 +2,6 @@
 """KVM's structures: tools/state's conversions beside those of c/kvm_state.h on the same random data, the same of c/state_fields.h, and
 the rules by rows."""
 
-import json
 import random
 import shutil
 import subprocess
@@ -10,20 +9,18 @@ import tempfile
 import unittest
 from dataclasses import replace
 from pathlib import Path
-from typing import Any
 
 import support
-from state_samples import boards, everything, run_tool, running, saved
+from state_samples import boards, everything, run_tool, running
 
-from clocktools.states.counters import Channel, counter_from, counter_to
+from clocktools.states.counters import Channel
 from clocktools.states.editing import move_account
-from clocktools.states.kvm import (CHANNEL, CLOCK, CURRENT, DIVIDE, HOST_TSC, INITIAL, LAPIC, LVT, MSR, REALTIME, Choices, Kvm, Processor,
-                                   apic_from, from_kvm, pit_packed, pit_unpacked, to_kvm)
-from clocktools.states.layout import POLICIES, fields
-from clocktools.states.saved import Fields, Losses, ask, blank, encoded, judged, packed, unjudged
+from clocktools.states.kvm import (CLOCK, CURRENT, DIVIDE, INITIAL, LAPIC, LVT, MSR, REALTIME, Choices, Kvm, Processor, apic_from, from_kvm,
+                                   pit_packed, to_kvm)
+from clocktools.states.layout import fields
+from clocktools.states.saved import Fields, Losses, blank, encoded, packed, unjudged
 
 ARCHIVE = support.TOP / "release/libclockboard-x86_64-linux.a"
-RECORDED = json.loads((support.HERE / "streams/kvm_pit.json").read_text())
 CASES = 60
 COMPILERS = (("gcc", "-std=c11", "-x", "c"), ("g++", "-std=c++17", "-x", "c++"))
 SANITIZED = ("-O1", "-g", "-D_POSIX_C_SOURCE=200809L", "-fsanitize=address,undefined", "-fno-sanitize-recover", "-Wall", "-Wextra", "-Werror",
@@ -216,42 +213,6 @@ def words_of(folder: Path, values: Fields) -> list[str]:
         words += [(folder / f"cpu{cpu}.lapic").read_bytes().hex() if values["format"] >= 3 else "-", msrs.hex(),
                   str(int.from_bytes((folder / f"cpu{cpu}.tsc_offset").read_bytes(), "little"))]
     return words
-
-
-
-class Recorded(unittest.TestCase):
-    """Counter 2 of KVM's own 8254, recorded by tests/streams/kvm_pit.c in modes 0, 2, 3 and 4."""
-
-    def taken(self, told: dict[str, Any]) -> tuple[Fields, Losses]:
-        """The state of a structure, by a counter of nanoseconds."""
-        channels, flags = pit_unpacked(bytes.fromhex(told["pit2"]))
-        losses, now_ns = Losses(), told["monotonic_ns"]
-        kvm = Kvm(channels, flags, now_ns, HOST_TSC, 0, now_ns, {"tsc_khz": 1_000_000, "monotonic_ns": now_ns}, [Processor(b"", {}, 0)])
-        return from_kvm(blank(2), kvm, Choices(version=2), losses), losses
-
-    def counts_at(self, values: Fields, times: list[int]) -> list[int]:
-        """What the board shows of counter 2 at these times."""
-        records = [f"0 {time} {words}" for time in times for words in ("out 43 80", "in 42", "in 42")]
-        read = [block.reply[0] for block in ask(encoded(values), records).blocks if block.reply]
-        return [int(high + low, 16) for low, high in zip(read[::2], read[1::2])]
-
-    def test_counts(self) -> None:
-        """Each count that the guest read is one of the board's between the times before and after the reading."""
-        for told in RECORDED:
-            with self.subTest(mode=told["mode"]):
-                values, _ = self.taken(told)
-                period = values["pit.counter2.count_register"] if told["mode"] in (2, 3) else 65536
-                self.assertEqual(values["pit.counter2.control"], 0x30 | told["mode"] << 1)
-                counts = self.counts_at(values, [time for begin, end, _ in told["readings"] for time in (begin, end)])
-                for first, last, (begin, end, count) in zip(counts[::2], counts[1::2], told["readings"], strict=True):
-                    self.assertLess(end - begin, 10**9 * period // 1193182, "a window of more than a period")
-                    self.assertLessEqual((first - count) % period, (first - last) % period, (first, count, last))
-
-    def test_counter_0_has_no_load_time(self) -> None:
-        for told in RECORDED:
-            channels, _ = pit_unpacked(bytes.fromhex(told["pit2"]))
-            self.assertNotEqual(channels[2].count_load_time, 0)
-            self.assertIn("pit.counter0.count", [name for name, _ in self.taken(told)[1].lossy])
 
 
 class LocalApic(unittest.TestCase):

@@ -108,7 +108,7 @@ def say_what_differs(at: str, number: int, channel: Channel, mode: int, losses: 
     if mode in (1, 5):
         losses.say(at + "flags", "the source starts modes 1 and 5 by the write, not by a trigger: taken as triggered then")
     if mode == 3 and channel.count % 2 and not channel.bcd & 1:
-        losses.say(at + "count", "an odd count in mode 3: the source's readings fall short of the data sheet's")
+        losses.say(at + "count", "an odd count in mode 3: the source's count is one more in the first half of the period")
     if mode == 0 and channel.write_state == HIGH_NEXT and channel.rw_mode & 3 == WORD:
         losses.say(at + "count", "mode 0 half written: the board stands until the second byte")
 
