@@ -16,6 +16,7 @@ from typing import Any
 
 import support
 from state_samples import run_tool
+from streams.beside import page_clock, replies
 
 from clocktools.states.counters import Channel, counter_from
 from clocktools.states.kvm import (CLOCK, HOST_TSC, REALTIME, Choices, Kvm, Processor, apic_from, apic_to, from_kvm, msrs_to, next_period,
@@ -44,10 +45,6 @@ def board_by_ns(channels: list[Channel], now_ns: int, **choices: Any) -> tuple[F
     kvm = Kvm([replace(channel) for channel in channels], 0, now_ns, HOST_TSC, 0, now_ns, {"tsc_khz": 1_000_000, "monotonic_ns": now_ns},
               [Processor(b"", {}, 0)])
     return from_kvm(blank(2), kvm, Choices(version=2, **choices), losses), losses
-
-
-def replies(state: bytes, records: list[str]) -> list[list[str]]:
-    return [block.reply for block in ask(state, records).blocks]
 
 
 def counts_of(values: Fields, counter: int, times: list[int]) -> list[int]:
@@ -336,14 +333,6 @@ class GivenTimers(Timers):
         self.assertEqual(msrs_to(values, 0, None).hex(), told["msrs"])
         self.assertEqual([row[4] for row in told["deadlines"]], [deadline])
         self.assertTrue(told["tick"][2] - ticks(values, LATE_NS) <= deadline <= told["tick"][3], told["tick"])
-
-
-def page_clock(page: bytes, tsc: int) -> int:
-    """The clock that a guest works out of a page."""
-    begin, base = (int.from_bytes(page[at : at + 8], "little") for at in (8, 16))
-    mul, shift = int.from_bytes(page[24:28], "little"), int.from_bytes(page[28:29], "little", signed=True)
-    passed = (tsc - begin) << shift if shift >= 0 else tsc - begin >> -shift
-    return base + (passed * mul >> 32)
 
 
 class Clocks(unittest.TestCase):

@@ -9,7 +9,7 @@ from pathlib import Path
 
 from clocktools.states.qemu import Source, from_qemu
 from clocktools.states.qemu_stream import Stream
-from clocktools.states.saved import Fields, Losses, at_power_on, replayed
+from clocktools.states.saved import Fields, Losses, ask, at_power_on, replayed
 
 from .scenes import ACKNOWLEDGED_NS, HPET_REGISTERS, TIME_BYTES
 
@@ -101,3 +101,16 @@ def rises_of(state: bytes, values: Fields, one: Recording) -> list[tuple[int, in
     edges = [(int(words[1]) - values["host.anchor_ns"] + one.virtual_ns, int(words[2])) for words in map(str.split, said)
              if words[0] == "edge" and words[3] == "up"]
     return [(time, line) for time, line in edges if time > one.virtual_ns and line in one.lines]
+
+
+def replies(state: bytes, records: list[str]) -> list[list[str]]:
+    """What the program replies to each record on the board of a state, without line and number."""
+    return [block.reply for block in ask(state, records).blocks]
+
+
+def page_clock(page: bytes, tsc: int) -> int:
+    """The clock that a guest works out of a page."""
+    begin, base = (int.from_bytes(page[at : at + 8], "little") for at in (8, 16))
+    mul, shift = int.from_bytes(page[24:28], "little"), int.from_bytes(page[28:29], "little", signed=True)
+    passed = (tsc - begin) << shift if shift >= 0 else tsc - begin >> -shift
+    return base + (passed * mul >> 32)

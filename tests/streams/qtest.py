@@ -2,55 +2,22 @@
 """A QEMU under the accelerator qtest: ports and registers by its text protocol, the virtual clock by steps, migration by QMP. Changes of
 the IO-APIC's inputs are stamped with the nanosecond of the timer that made them."""
 
-import json
-import socket
-import subprocess
-import tempfile
-import time
-from pathlib import Path
-from typing import Any
+from .machine import Machine
 
 HPET = 0xFED00000
 RTC = "clock=vm,base=2026-03-01T12:34:56"
 
 
-class Qtest:
+class Qtest(Machine):
     def __init__(self, qemu: str, firmware: list[str], words: tuple[str, ...] = (), is_incoming: bool = False) -> None:
-        self.folder = tempfile.TemporaryDirectory()
+        super().__init__()
         self.now_ns, self.rises = 0, list[tuple[int, int]]()
         self.pending = list[int]()
-        command = [qemu, *firmware, "-accel", "qtest", "-machine", "q35", "-m", "1", "-display", "none", "-vga", "none", "-net", "none",
-                   "-nodefaults", "-rtc", RTC, "-qtest", f"unix:{self.path('q')},server=on,wait=on", "-qtest-log", "/dev/null",
-                   "-qmp", f"unix:{self.path('m')},server=on,wait=off", *words, *(("-incoming", "defer") if is_incoming else ())]
-        self.process = subprocess.Popen(command, stdin=subprocess.DEVNULL, stderr=subprocess.DEVNULL)
-        self.test, self.monitor = self.connected("q"), self.connected("m")
-        self.monitor.readline()
-        self.ask("qmp_capabilities")
+        self.start(qemu, *firmware, "-accel", "qtest", "-machine", "q35", "-m", "1", "-rtc", RTC, "-qtest",
+                   f"unix:{self.path('q')},server=on,wait=on", "-qtest-log", "/dev/null", *words, *(("-incoming", "defer") if is_incoming else ()))
+        self.test = self.connected("q")
+        self.connect_monitor()
         self.command("irq_intercept_in ioapic")
-
-    def path(self, name: str) -> str:
-        return str(Path(self.folder.name) / name)
-
-    def connected(self, name: str) -> Any:
-        for _ in range(1200):
-            end = socket.socket(socket.AF_UNIX)
-            try:
-                end.connect(self.path(name))
-                return end.makefile("rw")
-            except OSError:
-                end.close()
-                time.sleep(0.05)
-        raise RuntimeError("QEMU opens no socket")
-
-    def ask(self, command: str, **arguments: object) -> Any:
-        self.monitor.write(json.dumps({"execute": command, "arguments": arguments}) + "\n")
-        self.monitor.flush()
-        while True:
-            answer = json.loads(self.monitor.readline())
-            if "error" in answer:
-                raise RuntimeError(answer["error"]["desc"])
-            if "return" in answer:
-                return answer["return"]
 
     def command(self, text: str) -> list[str]:
         self.test.write(text + "\n")
@@ -84,24 +51,3 @@ class Qtest:
     def until(self, now_ns: int) -> None:
         if now_ns > self.now_ns:
             self.command(f"clock_set {now_ns}")
-
-    def done(self) -> None:
-        while (status := self.ask("query-migrate").get("status")) != "completed":
-            if status == "failed":
-                raise RuntimeError("the migration failed")
-            time.sleep(0.02)
-
-    def saved(self) -> bytes:
-        self.ask("migrate", uri=f"exec:cat > {self.path('stream')}")
-        self.done()
-        return Path(self.path("stream")).read_bytes()
-
-    def load(self, stream: bytes) -> None:
-        Path(self.path("stream")).write_bytes(stream)
-        self.ask("migrate-incoming", uri=f"exec:cat {self.path('stream')}")
-        self.done()
-
-    def end(self) -> None:
-        self.ask("quit")
-        self.process.wait(30)
-        self.folder.cleanup()
