@@ -1,6 +1,6 @@
 # SPDX-License-Identifier: Apache-2.0 OR MIT
-"""KVM's structures: tools/state's conversions beside those of c/kvm_state.h on the same random data, the same of c/state_fields.h, and
-the rules by rows."""
+"""KVM's structures: tools/state's conversions beside those of c/kvm_state.h on the same random data, the same of c/state_fields.h and of
+what-if beside the C library, and the rules by rows."""
 
 import random
 import shutil
@@ -9,12 +9,14 @@ import tempfile
 import unittest
 from dataclasses import replace
 from pathlib import Path
+from typing import Any
 
 import support
-from state_samples import boards, everything, run_tool, running
+from state_samples import boards, everything, run_tool, running, saved
 
 from clocktools.states.counters import Channel
 from clocktools.states.editing import move_account
+from clocktools.states.foreseeing import moved as moved_to, report
 from clocktools.states.kvm import (CLOCK, CURRENT, DIVIDE, INITIAL, LAPIC, LVT, MSR, REALTIME, Choices, Kvm, Processor, apic_from, from_kvm,
                                    pit_packed, to_kvm)
 from clocktools.states.layout import fields
@@ -22,6 +24,10 @@ from clocktools.states.saved import Fields, Losses, blank, encoded, packed, unju
 
 ARCHIVE = support.TOP / "release/libclockboard-x86_64-linux.a"
 CASES = 60
+MOVES, TICKS_ASKED = 10, 7
+"""Of so many moves each seventh is asked for its next ticks, which takes a dozen runs of the program for each processor."""
+RISES_LATER = "begin\n0 0 out 43 30\n0 0 out 40 ff\n0 0 out 40 ff\n0 1000000 step\nend\n"
+"""Line 0 rises 55 ms later, in the gap of a move."""
 COMPILERS = (("gcc", "-std=c11", "-x", "c"), ("g++", "-std=c++17", "-x", "c++"))
 SANITIZED = ("-O1", "-g", "-D_POSIX_C_SOURCE=200809L", "-fsanitize=address,undefined", "-fno-sanitize-recover", "-Wall", "-Wextra", "-Werror",
              "-pedantic")
@@ -175,6 +181,32 @@ class BesideC(unittest.TestCase):
             data = running().hex()
             self.assertEqual(asked(program, [f"policy {data} pit 3", f"policy {data} walk 1", "policy 00 pit 1"]),
                              [["answer", "2"], ["answer", "2"], ["answer", "9"]])
+
+    def test_what_if(self) -> None:
+        """What a copy of a board answers after a move is what the tool says of its state: time, edges, the next ones, the state."""
+        rows = []
+        for seed in range(MOVES):
+            source = random.Random(f"move {seed}")
+            rows.append((boards()[seed % len(boards())], source.randrange(100_000, 10_000_001), source.choice((0, source.randrange(10**9)))))
+        rows.append((saved(2, RISES_LATER), 3_000_000, 10**8))
+        wanted = [self.foreseen(*row, asks_ticks=number % TICKS_ASKED == 0) for number, row in enumerate(rows)]
+        self.assertTrue(any(tick for told in wanted for tick in told[2]) and any(len(told) > 4 for told in wanted))
+        for program in self.programs:
+            for said, told in zip(asked(program, [f"foresee {data.hex()} {khz} {gap}" for data, khz, gap in rows]), wanted, strict=True):
+                words = iter(said[1:])
+                self.assertEqual([next(words), next(words)], told[:2])
+                ticks = [next(words) for _ in told[2]]
+                self.assertEqual([tick for tick, wish in zip(ticks, told[2]) if wish is not None], [wish for wish in told[2] if wish is not None])
+                self.assertEqual(list(words), told[3:])
+
+    def foreseen(self, data: bytes, khz: int, gap: int, asks_ticks: bool) -> list[Any]:
+        """The same of the tool, whose move is a record and so an access; a processor's tick is none where it wasn't asked for."""
+        move = moved_to(data, khz, gap)
+        told, values = report(move, asks_ticks), unjudged(move.state)
+        ticks = told.get("next_tick_ns", {})
+        edges = [f"{edge['at_ns']}:{edge['line']}:{int(edge['up'])}" for edge in told["edges"]]
+        return [told["time_ns"][1], told["next_edge_ns"] or "0", [ticks.get(f"apic{cpu}") for cpu in range(values["cpus"])],
+                *edges, packed({**values, "accesses": values["accesses"] - 1}).hex()]
 
     def test_setup(self) -> None:
         for program in self.programs:

@@ -156,6 +156,8 @@ class Tcg(unittest.TestCase):
         binary = Stream(bytes.fromhex(guest("tcg-decimal").stream))
         binary.put("i8254", "channels[2].bcd", 0)
         virtual_ns, losses = values["host.anchor_count"], Losses()
+        passed = (virtual_ns - binary.get("i8254", "channels[2].count_load_time")) * PIT_HZ // SECOND
+        self.assertEqual(f"{shown(values, 'pit2', [virtual_ns])[0]:x}", str(9000 - passed % 9000))
         plain = from_qemu(at_power_on(["cpus 1", POLICY], 3), binary, Source(version=3, count=virtual_ns, guest_khz=1_000_000), losses)
         self.assertEqual(outside(plain, "pit2", windows_after(plain, lines, "pit2", PULSE_NS), read, 0x9000), [])
 

@@ -9,6 +9,7 @@
  *     policy STATE DEVICE POLICY                                           state HEX CHANGED, or answer CODE
  *     setup STATE                                                          setup and its numbers
  *     names STATE                                                          names and NAME:SIZE of each field
+ *     foresee STATE KHZ GAP                        time, next edge, each next tick, edges AT:LINE:UP, and the state after a move
  *
  * Bytes are hexadecimal digits, `-` is none. */
 #include "kvm_state.h"
@@ -171,6 +172,32 @@ static void names(void) {
     printf("\n");
 }
 
+/* What a copy of the board answers after a move. A next edge or tick that there is none of is 0. */
+static void foresee(void) {
+    static struct clockboard board;
+    struct clockboard_reply reply;
+    uint8_t state[CLOCKBOARD_STATE_MAX];
+    struct clockboard_view view;
+    uint64_t at_ns;
+    size_t length = bytes(state, sizeof state);
+    clockboard_load(&board, state, length, &reply);
+    struct clockboard copy = board;
+    uint64_t khz = natural(), gap_ns = natural();
+    clockboard_move(&copy, khz, 1000000000000, gap_ns, &reply);
+    if (reply.answer != CLOCKBOARD_OK || clockboard_look(&copy, &view) != CLOCKBOARD_OK) exit(15);
+    if (clockboard_next_edge(&copy, &at_ns) != CLOCKBOARD_OK) at_ns = 0;
+    printf("foresee %" PRIu64 " %" PRIu64, view.now_ns, at_ns);
+    for (uint8_t cpu = 0; cpu < view.cpus; cpu++) {
+        if (clockboard_next_tick(&copy, cpu, &at_ns) != CLOCKBOARD_OK) at_ns = 0;
+        printf(" %" PRIu64, at_ns);
+    }
+    for (uint32_t k = 0; k < reply.edge_count; k++)
+        printf(" %" PRIu64 ":%u:%u", reply.edges[k].at_ns, reply.edges[k].line, reply.edges[k].up);
+    if (clockboard_save(&copy, state, sizeof state, &length) != CLOCKBOARD_OK) exit(16);
+    print(" ", state, length);
+    printf("\n");
+}
+
 int main(void) {
     while (fgets(line, sizeof line, stdin) != NULL) {
         const char *job = strtok(line, " \n");
@@ -179,6 +206,7 @@ int main(void) {
         else if (strcmp(job, "policy") == 0) set_policy();
         else if (strcmp(job, "setup") == 0) setup();
         else if (strcmp(job, "names") == 0) names();
+        else if (strcmp(job, "foresee") == 0) foresee();
         else field(strcmp(job, "set") == 0);
     }
     return ferror(stdin) || fflush(stdout) != 0;
