@@ -74,6 +74,18 @@ class Recorded(unittest.TestCase):
                     pairs = pairs_of(one, line, found)
                     self.assertEqual([pair for pair in pairs if not fits(found.values, line, pair[0] - pair[1])], [], line)
 
+    def test_pulses_of_a_periodic_timer(self) -> None:
+        """A periodic timer of QEMU's HPET can pulse twice for a tick, 10 ns apart. The board's line rises once for each."""
+        for name in ("hpet-legacy", "all"):
+            with self.subTest(name):
+                one = named(name)
+                twice = {tuple(rise) for rise in one.again if rise[0] > one.virtual_ns}
+                self.assertGreater(len(twice), 10)
+                self.assertEqual(twice - {(time + 10, line) for time, line in one.rises}, set())
+                found = converted(one)
+                here = [rise for rise in rises_of(encoded(found.values), found.values, one) if rise[1] in {line for _, line in twice}]
+                self.assertEqual(len(here), sum(time > one.virtual_ns and line in {line for _, line in twice} for time, line in one.rises))
+
     def test_phases(self) -> None:
         """A time is found at which no phase is lost; with the time kept, each loss is told, and counts are off by a pulse at most."""
         for one in recordings():

@@ -32,6 +32,8 @@ class Recording:
     rises: list[tuple[int, int]]
     lines: list[int]
     messages: list[int] = field(default_factory=list)
+    again: list[tuple[int, int]] = field(default_factory=list)
+    """Rises with which QEMU pulsed a second time for one tick, which aren't among `rises`."""
 
     def source(self) -> Stream:
         return Stream(bytes.fromhex(self.stream))

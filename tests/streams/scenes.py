@@ -11,6 +11,7 @@ MS = 1_000_000
 TIME_BYTES = (0, 2, 4, 6, 7, 8, 9)
 HPET_REGISTERS = {"hpet": 0xF0, "isr": 0x20}
 READINGS = 24
+AGAIN_NS = 10
 ACKNOWLEDGED_NS = 100_000
 """A guest reads register C so long after the rise."""
 MESSAGE_PLACE, MESSAGE_DATA = 0x5000, 0x31
@@ -182,4 +183,9 @@ def follow(qemu: Qtest, scene: Scene) -> list[tuple[int, int]]:
             qemu.out(0x70, 12)
             qemu.read(0x71)
         still = still + 1 if qemu.now_ns == before else 0
-    return [rise for place, rise in enumerate(found) if not place or rise[0] - found[place - 1][0] > 10 or rise[1] != found[place - 1][1]]
+    return found
+
+
+def again(rises: list[tuple[int, int]]) -> list[tuple[int, int]]:
+    """The rises with which a periodic timer of QEMU's HPET pulses a second time for one tick."""
+    return [second for first, second in zip(rises, rises[1:]) if second[0] - first[0] <= AGAIN_NS and second[1] == first[1]]
