@@ -6,18 +6,20 @@ tests/streams/record_guests.
 A reading was made between two moments. It fits where the board has it between these."""
 
 import gzip
+import hashlib
 import json
 import unittest
-from dataclasses import dataclass
+from dataclasses import dataclass, field
 from functools import cache, cached_property
 
 import support
 from streams.beside import POLICY, page_clock, replies
 
 from clocktools.states.meaning import HPET_NS, PIT_HZ, SECOND
-from clocktools.states.qemu import Source, cpu_number, from_qemu
+from clocktools.states.qemu import Source, cpu_number, from_qemu, to_qemu
 from clocktools.states.qemu_stream import Stream
-from clocktools.states.saved import Fields, Losses, at_power_on, packed
+from clocktools.states.saved import Fields, Losses, at_power_on, packed, unjudged
+from clocktools.states.timebase import board_now
 
 LOW, FULL = 2**32, 2**16
 COUNTER_0, COUNTER_2, PULSE_NS = 11932, 50000, 838
@@ -28,6 +30,8 @@ PERIODIC_EVENT = 0x40
 HALF_SECOND_NS = SECOND // 2
 STEPS = 100
 """Into which a time is cut to find a turn of the second."""
+LOADED_NS = 7_000_000_000_123
+"""The virtual clock of a QEMU that loads what a board gives back."""
 TSC_NS = 20_000
 """How far TCG's TSC may be from the board's: QEMU stops its clocks one after the other."""
 STOP_NS = 20_000_000
@@ -49,6 +53,12 @@ class Guest:
     stream: str
     before: list[list[int]]
     after: list[list[int]]
+    state: str = ""
+    """That of a board to which the guest went then, where it did."""
+    back: str = ""
+    """The sha256 of the sections of the stream that the board gave back."""
+    returned: list[list[int]] = field(default_factory=list)
+    """What the guest read in a QEMU that loaded that."""
 
     @cached_property
     def source(self) -> Stream:
@@ -90,10 +100,10 @@ def shown(values: Fields, what: str, counts: list[int]) -> list[int]:
 def windows_after(values: Fields, lines: list[list[int]], what: str, more_ns: int = 0) -> list[tuple[int, int]]:
     """The board's counts at the two moments of each line, by the HPET's counter, and so much more on both sides."""
     def count_at(moment: int) -> int:
-        return values["host.anchor_count"] + (moment - values["hpet.counter"]) % LOW * 10 - values["host.anchor_ns"] % 10
+        return now + (moment - values["hpet.counter"]) % LOW * HPET_NS - board_now(values) % HPET_NS
 
-    place = INDEX[what]
-    return [(max(count_at(line[place]) - more_ns, values["host.anchor_count"]), count_at(line[place + 1]) + 10 + more_ns) for line in lines]
+    now, place = values["host.greatest_count"], INDEX[what]
+    return [(max(count_at(line[place]) - more_ns, now), count_at(line[place + 1]) + HPET_NS + more_ns) for line in lines]
 
 
 def outside(values: Fields, what: str, windows: list[tuple[int, int]], read: list[int], period: int) -> list[tuple[int, int, int]]:
@@ -104,23 +114,60 @@ def outside(values: Fields, what: str, windows: list[tuple[int, int]], read: lis
     return [row for row in rows if sign * (row[0] - row[1]) % period > sign * (row[0] - row[2]) % period]
 
 
-class Tcg(unittest.TestCase):
-    """The virtual clock runs on its own, and a second QEMU goes on from the stream."""
+def outside_of(values: Fields, lines: list[list[int]], what: str, period: int, more_ns: int = 0) -> list[tuple[int, int, int]]:
+    """The readings in these lines that the board doesn't have between their moments, or so much before or after."""
+    assert len(lines) > 20
+    return outside(values, what, windows_after(values, lines, what, more_ns), [line[INDEX[what] + 2] for line in lines], period)
 
-    NAMES = ("tcg-periodic", "tcg-one-shot", "tcg-time-of-day")
+
+class GoesOn(unittest.TestCase):
+    """Under TCG the virtual clock runs on its own, and a second QEMU goes on from the stream."""
+
+    PERIODIC, ONE_SHOT = "tcg-periodic", "tcg-one-shot"
+
+    def board(self, name: str) -> Fields:
+        return converted(name)[0]
+
+    def lines(self, name: str) -> list[list[int]]:
+        return guest(name).after
 
     def outside(self, name: str, what: str, period: int, more_ns: int = 0) -> list[tuple[int, int, int]]:
-        values, _ = converted(name)
-        lines = guest(name).after
-        self.assertGreater(len(lines), 20)
-        return outside(values, what, windows_after(values, lines, what, more_ns), [line[INDEX[what] + 2] for line in lines], period)
+        return outside_of(self.board(name), self.lines(name), what, period, more_ns)
 
     def test_counters(self) -> None:
         """Counter 0 leads; the pulses of counter 2 are up to one pulse from QEMU's."""
-        for name in self.NAMES:
+        for name in (self.PERIODIC, self.ONE_SHOT):
             with self.subTest(name):
                 self.assertEqual(self.outside(name, "pit0", COUNTER_0), [])
                 self.assertEqual(self.outside(name, "pit2", COUNTER_2, PULSE_NS), [])
+
+    def test_current_counts(self) -> None:
+        """The local APIC's timer, periodic over a turn, and one-shot."""
+        for name, period in ((self.PERIODIC, 50_000_000), (self.ONE_SHOT, LOW)):
+            with self.subTest(name):
+                read = [line[INDEX["current"] + 2] for line in self.lines(name)]
+                self.assertEqual(any(first < second for first, second in zip(read, read[1:])), name == self.PERIODIC)
+                self.assertEqual(self.outside(name, "current", period), [])
+
+    def test_tsc(self) -> None:
+        for name in (self.PERIODIC, self.ONE_SHOT):
+            self.assertEqual(self.outside(name, "tsc", LOW, TSC_NS), [], name)
+
+    def test_seconds(self) -> None:
+        """The second turns between the same two readings."""
+        place = INDEX["second"] + 2
+        for name in (self.PERIODIC, self.ONE_SHOT):
+            with self.subTest(name):
+                values, lines = self.board(name), self.lines(name)
+                self.assertGreater(len({line[place] for line in lines}), 1)
+                windows = windows_after(values, lines, "second")
+                found = iter(shown(values, "second", [count for window in windows for count in window]))
+                rows = [(first, line[place], last) for first, last, line in zip(found, found, lines, strict=True)]
+                self.assertEqual([row for row in rows if row[1] not in (row[0], row[2])], [])
+
+
+class Modes(unittest.TestCase):
+    """Counter 2 in other modes under TCG."""
 
     def test_modes_1_and_5(self) -> None:
         """QEMU starts them by the write, without a rise of the gate, which is told; the counts are the board's."""
@@ -129,7 +176,7 @@ class Tcg(unittest.TestCase):
                 values, losses = converted(name)
                 self.assertEqual(values["pit.counter2.control"] & 0xF, int(name[-1]) << 1)
                 self.assertIn("pit.counter2.flags", [name for name, _ in losses.lossy])
-                self.assertEqual(self.outside(name, "pit2", FULL, PULSE_NS), [])
+                self.assertEqual(outside_of(values, guest(name).after, "pit2", FULL, PULSE_NS), [])
 
     def test_odd_count_in_mode_3(self) -> None:
         """QEMU's count is one more than the board's in the first half of the period, and the same in the second."""
@@ -161,31 +208,9 @@ class Tcg(unittest.TestCase):
         plain = from_qemu(at_power_on(["cpus 1", POLICY], 3), binary, Source(version=3, count=virtual_ns, guest_khz=1_000_000), losses)
         self.assertEqual(outside(plain, "pit2", windows_after(plain, lines, "pit2", PULSE_NS), read, 0x9000), [])
 
-    def test_current_counts(self) -> None:
-        """The local APIC's timer, periodic over a turn, and one-shot."""
-        for name, period in (("tcg-periodic", 50_000_000), ("tcg-one-shot", LOW)):
-            with self.subTest(name):
-                read = [line[INDEX["current"] + 2] for line in guest(name).after]
-                self.assertEqual(any(first < second for first, second in zip(read, read[1:])), name == "tcg-periodic")
-                self.assertEqual(self.outside(name, "current", period), [])
 
-    def test_tsc(self) -> None:
-        for name in self.NAMES:
-            self.assertEqual(self.outside(name, "tsc", LOW, TSC_NS), [], name)
-
-    def seconds_differ(self, values: Fields, lines: list[list[int]]) -> list[tuple[int, int, int]]:
-        windows = windows_after(values, lines, "second")
-        found = iter(shown(values, "second", [count for window in windows for count in window]))
-        return [(first, line[INDEX["second"] + 2], last) for first, last, line in zip(found, found, lines, strict=True)
-                if line[INDEX["second"] + 2] not in (first, last)]
-
-    def test_seconds(self) -> None:
-        """The second turns between the same two readings."""
-        for name in ("tcg-periodic", "tcg-one-shot"):
-            with self.subTest(name):
-                lines = guest(name).after
-                self.assertGreater(len({line[INDEX["second"] + 2] for line in lines}), 1)
-                self.assertEqual(self.seconds_differ(converted(name)[0], lines), [])
+class Rtc(unittest.TestCase):
+    """What a stream doesn't tell of the MC146818, and what QEMU doesn't keep."""
 
     def test_time_of_day(self) -> None:
         """With -rtc clock=host the part of the second isn't in the stream: that is told, or it comes from the time of day at the stop."""
@@ -208,6 +233,32 @@ class Tcg(unittest.TestCase):
                 begin, end = windows[event - 1][0], windows[event][1]
                 self.assertFalse(begin - LATE_NS <= wanted <= end, (begin, wanted, end))
                 self.assertTrue(begin - LATE_NS <= values["host.anchor_count"] + HALF_SECOND_NS <= end, (begin, end))
+
+
+class Returned(GoesOn):
+    """A guest of TCG that was on a board for 1.5 ms, in a QEMU that goes on from the stream that the board gave back."""
+
+    PERIODIC, ONE_SHOT = "tcg-returned-periodic", "tcg-returned-one-shot"
+
+    def board(self, name: str) -> Fields:
+        return unjudged(bytes.fromhex(guest(name).state))
+
+    def lines(self, name: str) -> list[list[int]]:
+        return guest(name).returned
+
+    def test_streams(self) -> None:
+        """What QEMU loaded is what `to qemu` makes of these states. Where that has changed, the recordings are to be made again."""
+        for name in (self.PERIODIC, self.ONE_SHOT):
+            stream = Stream(bytes.fromhex(guest(name).stream))
+            made = to_qemu(self.board(name), stream, LOADED_NS, LOADED_NS, Losses())
+            self.assertEqual(hashlib.sha256(made).hexdigest(), guest(name).back, name)
+
+    def test_counters(self) -> None:
+        """No phase is lost: each counter has a load time of its own."""
+        for name in (self.PERIODIC, self.ONE_SHOT):
+            with self.subTest(name):
+                self.assertEqual(self.outside(name, "pit0", COUNTER_0), [])
+                self.assertEqual(self.outside(name, "pit2", COUNTER_2), [])
 
 
 def turns_of(lines: list[list[int]], moments: list[int]) -> list[tuple[int, int]]:
