@@ -24,14 +24,15 @@ from clocktools.states.kvm import (CLOCK, HOST_TSC, REALTIME, Choices, Kvm, Proc
 from clocktools.states.saved import Fields, Losses, ask, blank, packed, unjudged
 from clocktools.states.timebase import board_now
 
-FOLDER = Path(os.environ.get("RECORDED_KVM") or support.HERE / "streams/kvm")
+FRESH = os.environ.get("RECORDED_KVM")
+FOLDER = Path(FRESH or support.HERE / "streams/kvm")
 TOLD: dict[str, Any] = json.loads(gzip.decompress((FOLDER / "guest.json.gz").read_bytes()))
 PULSE_NS = 838
 FULL = 65536
 GIVEN_READINGS = 100
 SECONDS_NS = 3 * 10**9
-LATE_NS = 2_000_000
-"""By how much a tick of KVM may be late, as it comes by a timer of its host."""
+LATE_NS = 20_000_000 if FRESH else 2_000_000
+"""By how much a tick of KVM may be late, as it comes by a timer of its host, which may have other work than a fresh recording."""
 DIVISORS = {"one-shot": 1, "one-shot by 16": 16, "periodic": 1, "periodic by 128": 128, "one-shot by 4": 4}
 
 
@@ -48,10 +49,12 @@ def board_by_ns(channels: list[Channel], now_ns: int, **choices: Any) -> tuple[F
 
 
 def counts_of(values: Fields, counter: int, times: list[int]) -> list[int]:
-    """What the board shows of a counter at these counts of its host's counter, which rise."""
-    records = [f"0 {time} {words}" for time in times for words in (f"out 43 {counter << 6:02x}", *[f"in {0x40 + counter:x}"] * 2)]
+    """What the board shows of a counter at these counts of its host's counter."""
+    order = sorted(set(times))
+    records = [f"0 {time} {words}" for time in order for words in (f"out 43 {counter << 6:02x}", *[f"in {0x40 + counter:x}"] * 2)]
     read = [words[0] for words in replies(packed(values), records) if words]
-    return [int(high + low, 16) for low, high in zip(read[::2], read[1::2], strict=True)]
+    found = {time: int(high + low, 16) for time, low, high in zip(order, read[::2], read[1::2], strict=True)}
+    return [found[time] for time in times]
 
 
 def counts_between(values: Fields, windows: list[tuple[int, int]], counter: int = 2) -> list[set[int]]:
@@ -231,13 +234,16 @@ def taken(place: str, version: int, *words: str) -> tuple[Fields, tuple[str, ...
 
 def currents_of(values: Fields, windows: list[tuple[int, int]]) -> list[tuple[int, int]]:
     """The current count of the local APIC's timer at the beginning and the end of windows of the host's TSC."""
-    shown = [int(words[0], 16) for words in replies(packed(values), [f"0 {count} rdmsr 839" for window in windows for count in window])]
-    return list(zip(shown[::2], shown[1::2], strict=True))
+    order = sorted({count for window in windows for count in window})
+    shown = [int(words[0], 16) for words in replies(packed(values), [f"0 {count} rdmsr 839" for count in order])]
+    found = dict(zip(order, shown, strict=True))
+    return [(found[begin], found[end]) for begin, end in windows]
 
 
 def due_at(values: Fields, counts: list[int]) -> list[int]:
     """How many ticks of the local APIC's timer have come due by these counts of the host's TSC."""
-    return [int(words[0]) for words in replies(packed(values), [f"0 {count} counts apic0" for count in counts])]
+    now = values["host.greatest_count"]
+    return [int(words[0]) for words in replies(packed(values), [f"0 {max(count, now)} counts apic0" for count in counts])]
 
 
 def ticks(values: Fields, nanoseconds: int) -> int:
