@@ -284,6 +284,7 @@ class UnderKvm(unittest.TestCase):
     def setUp(self) -> None:
         self.guest, self.stream = guest("kvm"), guest("kvm").source
         self.values, losses = converted("kvm")
+        self.notes = [name for name, _ in losses.notes]
         self.lossy = [name for name, _ in losses.lossy]
         self.clock_ns = self.stream.get("kvmclock", "clock")
 
@@ -330,7 +331,8 @@ class UnderKvm(unittest.TestCase):
         self.assertEqual(self.differing(values, "pit0", COUNTER_0), len(self.guest.before))
 
     def test_seconds(self) -> None:
-        """The second turns as it did before the stop."""
+        """The second turns as it did before the stop, but for the time between the readings of QEMU's clocks, which is a note."""
+        self.assertIn("host.anchor_ns", self.notes)
         moments = [self.moment(line, INDEX["second"] + 1) for line in self.guest.before]
         self.assertTrue(fits_turns(self.values, turns_of(self.guest.before, moments), STOP_NS))
 

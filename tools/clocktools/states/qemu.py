@@ -128,6 +128,8 @@ def time_from(stream: Stream, source: Source, virtual_ns: int, phases: Phases, l
     if has_page or source.keeps_time:
         time = clock if stream.has("kvmclock") else virtual_ns
         Aligned(time, phases.errors(time)).tell(losses, "the page's time is kept")
+        if has_page:
+            losses.note("host.anchor_ns", "QEMU reads its clocks one after the other: the MC146818 and the HPET may be some ms older")
         return time
     found = aligned(virtual_ns, phases)
     found.tell(losses, "no time has all phases")
