@@ -189,6 +189,36 @@ class Rows(Folder):
         self.assertEqual(self.differences(trace, "5 +1\n6 +1\n7 d0 +1\n"), [
             ("8254 counter 2", "count", None, "effect_in")])
 
+    def test_no_trigger(self) -> None:
+        # In mode 1 a rise of GATE before the count is none: at 20 us the counter reads 0, and QEMU's counts. After a rise that
+        # comes later it reads 983, 3D7h, and no row explains another.
+        trace = "0 0 out 43 b2\n0 0 out 61 01\n0 0 out 42 e8\n0 0 out 42 03\n0 20000 in 42\n"
+        row = ("8254 counter 2", "count")
+        self.assertEqual(self.differences(trace, "7 d0\n"), [(*row, "trigger", "gated")])
+        later = trace.replace("0 20000", "0 5000 out 61 00\n0 5000 out 61 01\n0 20000")
+        self.assertEqual(self.differences(later, "9 d0 +1\n"), [(*row, None, "effect_in")])
+
+    def test_read_back_with_d0(self) -> None:
+        # Count 1,000 reads 991, 3DFh, at 8.4 us and 879, 36Fh, at 102.4 us. D3h would latch, and F3h nothing, with D0 = 0 too.
+        trace = "0 0 out 43 34\n0 0 out 40 e8\n0 0 out 40 03\n0 8400 out 43 {}\n0 102400 in 40\n0 102400 in 40\n"
+        row = ("8254 counter 0", "count")
+        for command, cause in (("d3", "read-back-d0"), ("e3", "read-back-d0"), ("f3", None), ("d5", None)):
+            with self.subTest(command):
+                found = self.differences(trace.format(command), "5 +1\n6 +1\n7 df +1\n8 03 +1\n")
+                self.assertEqual(found, [(*row, cause, "is_chosen" if cause else "effect_in")])
+
+    def test_latch_between_two_bytes(self) -> None:
+        # The low byte of 991, 3DFh, was read when 879, 36Fh, is latched: here its high byte comes next, and QEMU's low one.
+        trace = "0 0 out 43 34\n0 0 out 40 e8\n0 0 out 40 03\n0 8400 in 40\n0 102400 out 43 00\n0 102400 in 40\n"
+        row = ("8254 counter 0", "count")
+        self.assertEqual(self.differences(trace, "5 +1\n6 df +1\n7 +1\n8 6f +1\n"), [(*row, "latch-order", "reads_high")])
+        whole = trace.replace("0 102400 out", "0 8400 in 40\n0 102400 out")
+        self.assertEqual(self.differences(whole, "5 +1\n6 df +1\n7 03 +1\n8 +1\n9 00 +1\n"), [(*row, None, "effect_in")])
+
+    def test_port_43(self) -> None:
+        self.assertEqual(self.differences("0 0 in 43\n0 0 in 43\n", "3 00\n4 fe\n"), [
+            ("port 43h", "bit 0", None, "port_read"), ("port 43h", "bits 0, 1, 2, 3, 4, 5, 6, 7", "port-43", "port_read")])
+
     def test_status(self) -> None:
         # Written at 0 and not loaded yet: null count. In mode 2 QEMU shows OUT the other way round.
         trace = "0 0 out 43 34\n0 0 out 40 e8\n0 0 out 40 03\n0 0 out 43 e2\n0 0 in 40\n"

@@ -63,6 +63,8 @@ class Judge:
             return self.rtc.read(rule, read, self.rtc.index in self.follower.rtc_written), None
         if place == 0x61:
             return self.pit.port_61_read(rule, read) if read.mask else ([], None)
+        if place == 0x43:
+            return self.pit.port_43_read(rule, read), None
         if not 0x40 <= place <= 0x42:
             return by_bits(rule, read.mask, []), None
         is_status = rule.name == "status_of"

@@ -13,6 +13,10 @@ BCD = Cause("bcd", "pit_counter", "read_as")
 NULL = Cause("null-count", "pit_counter", "status_of")
 GATE = Cause("gate", "pit_counter", "effect_in")
 UNWRITTEN = Cause("no-count", "pit_counter", "counter_at_power_on")
+TRIGGER = Cause("trigger", "pit_counter", "gated")
+READ_BACK = Cause("read-back-d0", "pit_readback", "is_chosen")
+LATCH_ORDER = Cause("latch-order", "pit_counter", "reads_high")
+PORT_43 = Cause("port-43", "pit_readback", "port_read")
 REFRESH = Cause("refresh", "pit_readback", "read_of_61")
 REFRESH_BIT, OUT_BIT = 1 << 4, 1 << 5
 STATUS_OUT, STATUS_NULL = 1 << 7, 1 << 6
@@ -57,6 +61,12 @@ class Counter:
     was_reloaded: bool = False
     """Another count was written while one counted, in a mode that loads it at the end of a period."""
     was_stopped: bool = False
+    was_triggered: bool = False
+    """GATE has risen since a count was written."""
+    was_read_back: bool = False
+    """A read-back with D0 = 1 chose it, which latches nothing here."""
+    was_latched_between: bool = False
+    """Its count was latched between the reads of its two bytes."""
     latched: int | None = None
     """To how many nanoseconds it is known when a count was latched, where one waits."""
     reads_high: bool = False
@@ -81,6 +91,7 @@ class Counter:
 
     def latch(self, within: int) -> None:
         if self.latched is None:
+            self.was_latched_between |= self.takes_two and self.reads_high
             self.latched = within
 
     def to_end(self, step: int, read: Read) -> int:
@@ -96,6 +107,12 @@ class Counter:
         return [cause for cause, holds in (
             (UNWRITTEN, not self.is_loaded), (BCD, bool(self.control and self.control & 1)),
             (GATE, self.was_stopped and self.mode not in TRIGGERED), (RELOAD, self.was_reloaded)) if holds]
+
+    def count_causes(self) -> list[Cause]:
+        """Why the bytes of its count may differ from then on, whatever they are."""
+        return [*self.causes(), *(cause for cause, holds in (
+            (TRIGGER, self.is_loaded and self.mode in TRIGGERED and not self.was_triggered),
+            (READ_BACK, self.was_read_back), (LATCH_ORDER, self.was_latched_between)) if holds)]
 
 
 @dataclass
@@ -126,6 +143,7 @@ class PitJudge:
         if (byte ^ self.port_61) & 1:
             self.counters[2].started += within
             self.counters[2].was_stopped |= not byte & 1
+            self.counters[2].was_triggered |= self.counters[2].is_loaded and bool(byte & 1)
             self.keep(2, Write(time, 0x61, byte & 3))
         self.port_61 = byte & 3
 
@@ -133,8 +151,10 @@ class PitJudge:
         number = byte >> 6
         if number == 3:
             for k, counter in enumerate(self.counters):
-                if byte >> k + 1 & 1 and not byte & 0x21:
-                    counter.latch(within)
+                if byte >> k + 1 & 1:
+                    counter.was_read_back |= bool(byte & 1) and byte & 0x30 != 0x30
+                    if not byte & 0x21:
+                        counter.latch(within)
         elif not byte & 0x30:
             self.counters[number].latch(within)
         else:
@@ -168,7 +188,7 @@ class PitJudge:
         self.follow(counter, read)
         if not read.mask:
             return []
-        cause = next(iter(counter.causes()), None)
+        cause = next(iter(counter.count_causes()), None)
         if cause:
             return [known(rule, "count", cause)]
         if distance <= counts:
@@ -183,6 +203,10 @@ class PitJudge:
             counter.latched, counter.reads_high = None, False
         else:
             counter.reads_high, counter.low, counter.low_read = True, read.own, read.time
+
+    def port_43_read(self, rule: Rule, read: Read) -> list[Part]:
+        """A read of port 43h, which QEMU answers by 0."""
+        return by_bits(rule, read.mask, [] if read.peer else [(read.own, PORT_43)])
 
     def port_61_read(self, rule: Rule, read: Read) -> tuple[list[Part], Probe | None]:
         """A read of port 61h. A probe may have to show whether OUT 2 is near."""
