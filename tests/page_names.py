@@ -10,8 +10,8 @@ QUOTED = re.compile(r"`([^`\n]+)`")
 NAME = re.compile(r"[A-Za-z_][\w-]*(?:::[A-Za-z_]\w*)*(?:\(\))?")
 WORD = re.compile(r"[A-Za-z_](?:\w|-(?=\w))*")
 COMMENT = re.compile(r"//[^\n]*|(?:^|(?<=\s))--(?=\s)[^\n]*", re.MULTILINE)
-FOLDERS = ("bench", "bin", "c", "crates", "examples", "qemu", "rust", "tests", "tools")
-KINDS = ("", ".antt", ".c", ".h", ".json", ".py", ".rs", ".rt", ".sh", ".toml", ".trace")
+FOLDERS = ("bench", "bin", "c", "crates", "examples", "qemu", "rust", "share", "tests", "tools")
+KINDS = ("", ".antt", ".c", ".h", ".in", ".json", ".map", ".py", ".rs", ".rt", ".sh", ".toml", ".trace")
 GENERATED = {"out", "target", "must-fail", "__pycache__"}
 ROW = re.compile(r"^\| `([\w-]+)` \|", re.MULTILINE)
 DEFINED = re.compile(r"((?:`[^`]+`(?:, | and |,? ?))+)\(((?:\w+'s? )?(?:private[./])?[A-Z]\w*)\)")
@@ -57,8 +57,9 @@ class Code:
         with _ is a part of names."""
         parts = name.removesuffix("()").split("::")
         if len(parts) > 1:
-            known = self.crates.get(parts[0])
-            return set(parts[1:]) <= known if known else any(set(parts) <= it for it in (*self.crates.values(), self.rest))
+            crate = self.crates.get(parts[0])
+            homes = self.crates.values() if crate is None else [crate | {parts[0]}]
+            return any(set(parts) <= known for known in (*homes, self.rest))
         if name.startswith("_"):
             return any(it.endswith(name) for it in self.all)
         return any(it.startswith(name) for it in self.all) if name.endswith("_") else parts[0] in self.all
