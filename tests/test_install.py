@@ -63,9 +63,52 @@ class Manual(unittest.TestCase):
     def test_layout(self) -> None:
         if not shutil.which("groff"):
             self.skipTest("no groff")
-        for page in (MAN, CALLS):
+        for page in (MAN, *CALLS.parent.glob("*.3")):
             done = subprocess.run(["groff", "-man", "-Tascii", "-ww", "-z", page], capture_output=True, text=True, check=False)
             self.assertEqual((done.returncode, done.stderr), (0, ""), page.name)
+
+
+class Pages(unittest.TestCase):
+    """The man pages that bin/man-pages makes of the headers."""
+
+    def checked(self, folder: Path) -> tuple[int, str]:
+        done = subprocess.run([folder / "bin/man-pages", "--check"], capture_output=True, text=True, check=False)
+        return done.returncode, done.stderr
+
+    def test_current(self) -> None:
+        self.assertEqual(self.checked(support.TOP), (0, ""))
+
+    def test_what_it_finds(self) -> None:
+        """A comment, a declaration or a call that the pages don't have, and a call without a page."""
+        for old, new, said in (("Lets time pass up to", "Lets time go up to", "clockboard-access.3 isn't"),
+                               ("uint16_t port", "uint32_t port", "clockboard-access.3 isn't"),
+                               ("uint32_t clockboard_abi(void);", "uint32_t clockboard_abi(void);\nvoid clockboard_other(void);",
+                                "clockboard_other is in 0 pages")):
+            with tempfile.TemporaryDirectory() as folder:
+                for name in ("bin", "c", "share"):
+                    shutil.copytree(support.TOP / name, Path(folder) / name)
+                header = Path(folder) / "c/clockboard.h"
+                self.assertIn(old, header.read_text())
+                header.write_text(header.read_text().replace(old, new, 1))
+                status, wrong = self.checked(Path(folder))
+                self.assertEqual(status, 1)
+                self.assertIn(said, wrong)
+
+    def test_include_lines(self) -> None:
+        """A program with a page's include line alone has the calls that its page names."""
+        if not shutil.which("cc"):
+            self.skipTest("no cc")
+        with tempfile.TemporaryDirectory() as folder:
+            (Path(folder) / "clockboard").symlink_to(HEADER.parent)
+            for page in CALLS.parent.glob("clockboard-*.3"):
+                text = page.read_text()
+                names = re.findall(r"clockboard_\w+", text[text.index(".SH NAME") : text.index(".SH SYNOPSIS")])
+                includes = re.findall(r"^\.B (#include .*)$", text, re.MULTILINE)
+                self.assertEqual((bool(names), len(includes)), (True, 1), page)
+                code = "\n".join([*includes, "void *calls[] = {", *(f"(void *){name}," for name in names), "};"])
+                done = subprocess.run(["cc", "-std=gnu11", "-w", f"-I{folder}", "-x", "c", "-c", "-o", "/dev/null", "-"], input=code,
+                                      capture_output=True, text=True, check=False)
+                self.assertEqual((done.returncode, done.stderr), (0, ""), page.name)
 
 
 class Help(unittest.TestCase):
@@ -185,6 +228,17 @@ class Install(unittest.TestCase):
         self.assertEqual(set(re.findall(r"^\.B (clockboard_\w+)\(", CALLS.read_text(), re.MULTILINE)),
                          set(declared) | inline - steps)
         self.assertLess(steps, inline)
+
+    def test_numbers_of_the_man_page(self) -> None:
+        """The page says the numbers of the header."""
+        number = {name: re.search(rf"^#define CLOCKBOARD_{name} (\S+)", HEADER.read_text(), re.MULTILINE).group(1).strip('"')
+                  for name in ("VERSION", "ABI", "FORMAT_MAX")}
+        page = " ".join(CALLS.read_text().split())
+        for words in (f"version {number['VERSION']}, with number {number['ABI']} of the interface",
+                      f"libclockboard.so.{number['ABI']}", f"formats 1 to {number['FORMAT_MAX']} of"):
+            self.assertIn(words, page)
+        pages = {path.stem.replace("-", r"\-") for path in CALLS.parent.glob("clockboard-*.3")}
+        self.assertEqual(pages, set(re.findall(r"^\.BR (\S+) \(3\)", CALLS.read_text(), re.MULTILINE)))
 
     def test_released_program_asks_for_no_loader(self) -> None:
         """ELF: of its program headers none is PT_INTERP (3)."""
