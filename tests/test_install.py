@@ -152,6 +152,21 @@ class Completions(unittest.TestCase):
             self.assertEqual(sorted(self.complete(*job, "", command="clockboard-state")), words, job)
             self.assertEqual(sorted(self.complete("state", *job, "", command=str(support.TOP / "bin/clockboard"))), words, job)
 
+    def test_zsh_and_fish(self) -> None:
+        """Their lists are those of bash, in its order."""
+        share = support.TOP / "share"
+        of_bash = [words.split() for words in re.findall(r'^.*\bwords\+?="([^"]*)"', COMPLETIONS.read_text(), re.MULTILINE)]
+        of_zsh = re.findall(r"offered\+?=\(([^)]*)\)", (share / "zsh/site-functions/_clockboard").read_text())
+        fish = (share / "fish/vendor_completions.d/clockboard.fish").read_text()
+        of_fish = re.findall(r"^ *set (?:-l |-a )?words\b(.*)$", fish, re.MULTILINE)
+        self.assertGreater(len(of_bash), 8)
+        self.assertEqual([words.split() for words in of_zsh], of_bash)
+        self.assertEqual([words.split() for words in of_fish], of_bash)
+        for shell, path in (("zsh", share / "zsh/site-functions/_clockboard"), ("fish", share / "fish/vendor_completions.d/clockboard.fish")):
+            if shutil.which(shell):
+                done = subprocess.run([shell, "-n", path], capture_output=True, text=True, check=False)
+                self.assertEqual((done.returncode, done.stderr), (0, ""), shell)
+
     def test_the_installed_program_has_no_job_state(self) -> None:
         self.assertIn("state", self.complete("", command=str(support.TOP / "bin/clockboard")))
         self.assertNotIn("state", self.complete(""))
@@ -186,28 +201,69 @@ class Install(unittest.TestCase):
                                   env={**os.environ, "DESTDIR": folder})
             self.assertEqual((done.returncode, done.stderr), (0, ""))
             top = Path(folder) / "opt/clock"
-            files = sorted(str(path.relative_to(top)) for path in top.rglob("*") if path.is_file())
+            files = {str(path.relative_to(top)) for path in top.rglob("*") if path.is_file() or path.is_symlink()}
+            self.assertEqual({str(path.relative_to(top)) for path in top.rglob("*") if path.is_symlink() and not path.exists()}, set())
             abi = re.search(r"^#define CLOCKBOARD_ABI (\d+)$", HEADER.read_text(), re.MULTILINE).group(1)
-            shared = ["lib/libclockboard.so", f"lib/libclockboard.so.{abi}"] if shutil.which("cc") else []
-            monitor = [f"share/doc/clockboard/examples/monitor/{path.name}" for path in (HEADER.parent / "monitor").iterdir()]
-            tools = support.TOOLS / "clocktools"
-            modules = [f"lib/clockboard/tools/{path.relative_to(support.TOOLS)}"
-                       for path in (tools / "__init__.py", tools / "command.py", tools / "files.py", tools / "program.py", *(tools / "states").glob("*.py"))]
-            self.assertEqual(files, sorted([
-                "bin/clockboard", "bin/clockboard-state", "lib/clockboard/bin/clockboard", "lib/clockboard/tools/state", *modules, "include/clockboard/clockboard.h", "include/clockboard/put_page.h",
-                "include/clockboard/record.h", "include/clockboard/shared.h",
-                "include/clockboard/state_fields.h", "include/clockboard/kvm_state.h", "lib/cmake/clockboard/clockboard-config-version.cmake",
-                "lib/cmake/clockboard/clockboard-config.cmake", "lib/libclockboard.a", *shared,
-                "lib/pkgconfig/clockboard.pc", "share/bash-completion/completions/clockboard", "share/bash-completion/completions/clockboard-state",
-                "share/doc/clockboard/LICENSE-APACHE", "share/doc/clockboard/LICENSE-MIT",
-                "share/doc/clockboard/examples/demo.c", *monitor, "share/man/man1/clockboard-state.1", "share/man/man1/clockboard.1",
-                "share/man/man3/clockboard.3"]))
+            tools = {path.name for path in support.TOOLS.iterdir() if path.is_file() and os.access(path, os.X_OK)}
+            calls = re.findall(r"^(?:void|uint32_t|size_t|struct clockboard) (clockboard_\w+)\(", HEADER.read_text(), re.MULTILINE)
+            self.assertLessEqual({
+                "bin/clockboard", *(f"bin/clockboard-{tool}" for tool in tools), "lib/libclockboard.a",
+                *({"lib/libclockboard.so", f"lib/libclockboard.so.{abi}"} if shutil.which("cc") else ()), "lib/pkgconfig/clockboard.pc",
+                "lib/cmake/clockboard/clockboard-config-version.cmake", "lib/cmake/clockboard/clockboard-config.cmake",
+                *(f"lib/clockboard/tools/{path.relative_to(support.TOOLS)}" for path in support.TOOLS.rglob("*.py")),
+                *(f"include/clockboard/{path.name}" for path in HEADER.parent.glob("*.h") if path.name != "by_timers.h"),
+                *(f"share/man/man3/{call}.3" for call in calls), *(f"share/man/man1/clockboard-{tool}.1" for tool in tools),
+                *(f"share/doc/clockboard/{page}" for page in ("FORMATS.md", "C_LIBRARY.md", "LICENSE-MIT", "LICENSE-APACHE", "CHANGELOG.md")),
+                *(f"share/doc/clockboard/examples/monitor/{path.name}" for path in (HEADER.parent / "monitor").iterdir()),
+                "share/doc/clockboard/examples/demo.c", "share/doc/clockboard/examples/traces/boot.trace", "share/doc/clockboard/calls.html",
+                *(f"share/clockboard/rust/clockboard/{name}" for name in ("Cargo.toml", "build.rs", "src/lib.rs")),
+                "share/bash-completion/completions/clockboard-state", "share/zsh/site-functions/_clockboard",
+                "share/fish/vendor_completions.d/clockboard.fish"}, files)
+            listed = (top / "lib/clockboard/installed").read_text().splitlines()
+            self.assertEqual({line.split()[1] for line in listed if line.startswith("file ")} | {"lib/clockboard/installed"}, files)
+            for tool in tools:
+                done = subprocess.run([top / f"bin/clockboard-{tool}", "--help"], capture_output=True, text=True, check=False)
+                self.assertEqual((done.returncode, done.stderr), (0, ""), tool)
             version = subprocess.run([top / "bin/clockboard", "--version"], capture_output=True, text=True, check=True)
             self.assertTrue(version.stdout.startswith("clockboard "))
             self.assertIn(version.stdout.strip(), MAN.read_text())
             self.assertIn(f'#define CLOCKBOARD_VERSION "{version.stdout.split()[1]}"', HEADER.read_text())
             self.assertIn(version.stdout.strip(), CALLS.read_text())
             self.prints_a_state(top)
+
+    def install(self, folder: str, *words: str, **env: str) -> subprocess.CompletedProcess[str]:
+        return subprocess.run([support.TOP / "bin/install", *words], capture_output=True, text=True, check=False,
+                              env={**os.environ, "DESTDIR": folder, **env})
+
+    def test_uninstalled(self) -> None:
+        """All that came goes, also after a second install and a run of the tools; what others put there stays."""
+        with tempfile.TemporaryDirectory() as folder:
+            top = Path(folder) / "opt/clock"
+            (top / "lib").mkdir(parents=True)
+            before = sorted(Path(folder).rglob("*"))
+            for _ in range(2):
+                self.assertEqual(self.install(folder, "/opt/clock").returncode, 0)
+            subprocess.run([top / "bin/clockboard-state", "--help"], capture_output=True, check=True, env={
+                name: value for name, value in os.environ.items() if name != "PYTHONDONTWRITEBYTECODE"})
+            self.assertEqual(self.install(folder, "--uninstall", "/opt/clock").returncode, 0)
+            self.assertEqual(sorted(Path(folder).rglob("*")), before)
+            self.install(folder, "/opt/clock")
+            (top / "share/man/man1/other.1").write_text("")
+            self.install(folder, "--uninstall", "/opt/clock")
+            self.assertEqual(sorted(path.name for path in top.rglob("*")), ["lib", "man", "man1", "other.1", "share"])
+            done = self.install(folder, "--uninstall", "/opt/clock")
+            self.assertEqual((done.returncode, "nothing of this is installed" in done.stderr), (1, True))
+
+    def test_another_folder_of_libraries(self) -> None:
+        with tempfile.TemporaryDirectory() as folder:
+            self.assertEqual(self.install(folder, "/usr", CLOCKBOARD_LIBDIR="lib/x86_64-linux-gnu").returncode, 0)
+            libraries = Path(folder) / "usr/lib/x86_64-linux-gnu"
+            self.assertTrue((libraries / "libclockboard.a").is_file())
+            self.assertIn("\nlibdir=${prefix}/lib/x86_64-linux-gnu\n", (libraries / "pkgconfig/clockboard.pc").read_text())
+            config = (libraries / "cmake/clockboard/clockboard-config.cmake").read_text()
+            up = re.search(r"CMAKE_CURRENT_LIST_DIR}/([./]+)\"", config).group(1)
+            self.assertEqual((libraries / "cmake/clockboard" / up).resolve(), Path(folder).resolve() / "usr")
+            self.assertNotIn("@", config)
 
     def prints_a_state(self, top: Path) -> None:
         """The installed tool finds its modules, and the installed program, by its link."""
@@ -239,6 +295,18 @@ class Install(unittest.TestCase):
             self.assertIn(words, page)
         pages = {path.stem.replace("-", r"\-") for path in CALLS.parent.glob("clockboard-*.3")}
         self.assertEqual(pages, set(re.findall(r"^\.BR (\S+) \(3\)", CALLS.read_text(), re.MULTILINE)))
+
+    def test_numbers_of_the_packages(self) -> None:
+        """Debian's packages have the header's version, and the library's one the number of the interface in its name."""
+        debian = support.TOP / "debian"
+        number = re.search(r"^#define CLOCKBOARD_ABI (\d+)$", HEADER.read_text(), re.MULTILINE).group(1)
+        version = re.search(r'^#define CLOCKBOARD_VERSION "(.*)"', HEADER.read_text(), re.MULTILINE).group(1)
+        self.assertTrue((debian / "changelog").read_text().startswith(f"clockboard ({version}) "))
+        self.assertIn(f"\nPackage: libclockboard{number}\n", (debian / "control").read_text())
+        self.assertEqual({path.name for path in debian.glob("libclockboard[0-9]*")},
+                         {f"libclockboard{number}.install", f"libclockboard{number}.symbols"})
+        self.assertIn(f"libclockboard.so.{number} libclockboard{number} ", (debian / f"libclockboard{number}.symbols").read_text())
+        self.assertIn(f'\nversion = "{version}"\n', (support.TOP / "rust/clockboard/Cargo.toml").read_text())
 
     def test_released_program_asks_for_no_loader(self) -> None:
         """ELF: of its program headers none is PT_INTERP (3)."""

@@ -1,6 +1,7 @@
 // SPDX-License-Identifier: Apache-2.0 OR MIT
 //! Finds the archive: in the folder that CLOCKBOARD_LIB_DIR names, as libclockboard.a or as bin/c-library names it; else the
-//! released one of this repository; else where `bin/c-library` leaves one. It is copied, so that it has one name to the linker.
+//! released one of this repository; else where `bin/c-library` leaves one; else where bin/install put it, for a crate that it
+//! installed. It is copied, so that it has one name to the linker.
 use std::env;
 use std::fs;
 use std::path::{Path, PathBuf};
@@ -27,6 +28,8 @@ fn archive() -> PathBuf {
         None => vec![
             top.join("release/libclockboard-x86_64-linux.a"),
             top.join("crates/clockboard_c/out/c/libclockboard_c.a"),
+            top.join("../../lib/libclockboard.a"),
+            top.join("../../lib/x86_64-linux-gnu/libclockboard.a"),
         ],
     };
     let first = places[0].clone();
