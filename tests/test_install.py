@@ -286,13 +286,15 @@ class Install(unittest.TestCase):
         self.assertLess(steps, inline)
 
     def test_numbers_of_the_man_page(self) -> None:
-        """The page says the numbers of the header."""
+        """The two pages say the numbers of the header."""
         number = {name: re.search(rf"^#define CLOCKBOARD_{name} (\S+)", HEADER.read_text(), re.MULTILINE).group(1).strip('"')
                   for name in ("VERSION", "ABI", "FORMAT_MAX")}
         page = " ".join(CALLS.read_text().split())
         for words in (f"version {number['VERSION']}, with number {number['ABI']} of the interface",
                       f"libclockboard.so.{number['ABI']}", f"formats 1 to {number['FORMAT_MAX']} of"):
             self.assertIn(words, page)
+        self.assertIn(f"This is version {number['VERSION']}. It takes formats 1 to {number['FORMAT_MAX']} of traces and saved states. "
+                      f"The library for C of this version has number {number['ABI']} of the interface.", " ".join(MAN.read_text().split()))
         pages = {path.stem.replace("-", r"\-") for path in CALLS.parent.glob("clockboard-*.3")}
         self.assertEqual(pages, set(re.findall(r"^\.BR (\S+) \(3\)", CALLS.read_text(), re.MULTILINE)))
 
