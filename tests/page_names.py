@@ -20,10 +20,10 @@ IN_CODE = re.compile(r"`(\w+)` in (src/[\w/]+\.rt)")
 HEADING = re.compile(r"^## ([\w, ]+)(?::|$)")
 FOREIGN = {
     # of C, of Linux, of the kit and its messages: no code here has them
-    "_Bool", "__udivti3", "memmove", "min_timer_period_us", "KVM_CAP_SPLIT_IRQCHIP", "KVM_SET_GSI_ROUTING", "core::atomic::wake",
+    "_Bool", "__udivti3", "endbr64", "memmove", "min_timer_period_us", "KVM_CAP_SPLIT_IRQCHIP", "KVM_SET_GSI_ROUTING", "core::atomic::wake",
     "cell-in-c", "exported-raw-pointer", "generic-c-function", "unsupported-generic-in-c", "unsupported-theorem",
     # of examples, of what would be added among them
-    "NAME_tests", "apic5", "check_leaps", "leaps", "leaps-here", "leaps_in", "wall_leap",
+    "CLOCKBOARD_N", "NAME_tests", "apic5", "check_leaps", "leaps", "leaps-here", "leaps_in", "wall_leap",
 }
 
 

@@ -20,10 +20,13 @@ use Rattle.board_devices.specs.Lines.{levels}
 use Rattle.board_devices.specs.Places.{line_at}
 use Rattle.board_devices.specs.Rises.{lifts, one_if, rises_with}
 use Rattle.board_devices.proofs.Rises.{at-counted}
-use Rattle.board_core.specs.Time.{HasTime, devices_in, now_of, time_of_access}
+use Rattle.board_core.specs.Time.{devices_in, now_of, time_of_access}
+use Rattle.host_counter.specs.Time.{HasTime}
 use Rattle.board_core.specs.Tsc.{no_processor}
-use Rattle.board_core.specs.Pages.{published, prepared, published_at, published_by, processors_after}
-use Rattle.board_core.specs.Wall.{wall_number_after, wall_version_after, publishes_wall}
+use Rattle.board_core.specs.Pages.{published, prepared, published_at, processors_after}
+use Rattle.board_meters.specs.Published.{published_by}
+use Rattle.board_core.specs.Wall.{wall_number_after}
+use Rattle.board_meters.specs.Published.{wall_version_after, publishes_wall}
 use Rattle.board_core.specs.Rises.{rises_after}
 use Rattle.board_core.specs.Access.{act_of, own_edges, before_look}
 use Rattle.board_core.specs.Conditions.{IsFormat, IsVersion, IsWall, flags_valid, IsProcessor, AreProcessors, AreRises, IsJoined}
@@ -31,7 +34,8 @@ use Rattle.board_core.specs.Upgrade.{has_eight_timers}
 use Rattle.board_core.proofs.ApicTimers.{AreApics-more}
 use Rattle.board_core.specs.Conditions.{IsHv, AreApics}
 use Rattle.board_core.specs.Apics.{apics_in, apics_acted}
-use Rattle.board_core.specs.Hv.{no_hv, hv_in, with_page, hv_published, hv_written, publishes_hv, hv_after}
+use Rattle.board_core.specs.Hv.{no_hv, hv_in, with_page, hv_published, hv_written, hv_after}
+use Rattle.board_meters.specs.Published.{publishes_hv}
 use Rattle.board_core.specs.Tsc.{tsc_read}
 use Rattle.board_types.specs.Legal.{is_legal, is_msr}
 use Rattle.board_types.specs.declared.parts.HvParts.{HvParts}

@@ -31,19 +31,22 @@ use Rattle.board_devices.specs.declared.parts.DeviceParts.{DeviceParts}
 use Rattle.board_devices.specs.Nanosecond.{at_nanosecond}
 use Rattle.board_devices.specs.Lines.{levels}
 use Rattle.board_devices.specs.Run.{run, onward}
-use Rattle.board_core.specs.Time.{HasTime, devices_in, now_of, time_of_access}
+use Rattle.board_core.specs.Time.{devices_in, now_of, time_of_access}
+use Rattle.host_counter.specs.Time.{HasTime}
 use Rattle.board_core.specs.Access.{ran_to, bursts_to, after_run, before_look, after_act, value_at, edges_of, reply_of, after_access, own_edges}
 use Rattle.board_core.specs.Apics.{apics_in, tscs_by_time, after_look, with_apics}
 use Rattle.board_core.specs.Nanosecond.{passed, passed_times}
 use Rattle.board_core.specs.Quiet.{IsQuiet}
-use Rattle.board_core.specs.Refusals.{refusal_of}
+use Rattle.board_core.specs.Refusals.{meters_of, refusal_of}
+use Rattle.board_meters.specs.Meters.{refusal_in}
 use Rattle.board_devices.proofs.MainCounter.{hpet-run}
 use Rattle.hpet_bursts.specs.Bursts.{bursts_of}
 use Rattle.board_core.proofs.Messages.{bursts-silent, bursts-later, message_at-later}
 use Rattle.board_core.proofs.Nanoseconds.{after_run-nanoseconds}
 use Rattle.board_core.specs.Lazy.{is_passive, left_by}
 use Rattle.board_core.proofs.Passive.{before_look-passive, apics-left, own-passive, value_at-passive}
-use Rattle.board_core.proofs.Times.{time_at_max, no_fault-of_time}
+use Rattle.board_core.proofs.Times.{time_at_max}
+use Rattle.host_counter.proofs.Times.{no_fault-of_time}
 
 -- the devices: m nanoseconds, and then n more
 state-zero : (t : ℕ) (d : DeviceParts) → (run t 0 d).state ≡ d
@@ -376,11 +379,11 @@ module _ (b : BoardParts) (q g h : ℕ) (runs : 0 < b.anchor.khz) (quiet : IsQui
 
 -- a run changes nothing of what is refused
 pub refusal_of-after_run : (b : BoardParts) (cpu g h : ℕ) (a : Access) → refusal_of (after_run b g) cpu h a ≡ refusal_of b cpu h a
-unfolding refusal_of after_run
+unfolding refusal_in meters_of after_run
 refusal_of-after_run b cpu g h a = refl
 
 pub step-taken : (b : BoardParts) (cpu h : ℕ) → HasTime b.anchor h → b.accesses < MOST_ACCESSES → refusal_of b cpu h Step ≡ None
-unfolding refusal_of
+unfolding refusal_in meters_of
 step-taken b cpu h time few =
     ap (λ (o : Option TimeFault). option_or (option_map NoTime o) (cond (leb MOST_ACCESSES b.accesses) (Some (Spent b.accesses)) None))
     (no_fault-of_time b.anchor h time)

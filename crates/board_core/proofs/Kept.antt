@@ -31,10 +31,12 @@ use Rattle.board_devices.specs.Places.{line_at}
 use Rattle.board_devices.specs.Rises.{lifts, one_if}
 use Rattle.board_core.specs.Time.{devices_in, now_of}
 use Rattle.board_core.specs.Pages.{processors_after}
-use Rattle.board_core.specs.Wall.{wall_number_after, wall_version_after}
+use Rattle.board_core.specs.Wall.{wall_number_after}
+use Rattle.board_meters.specs.Published.{wall_version_after}
 use Rattle.board_core.specs.Rises.{rises_after}
 use Rattle.board_core.specs.Access.{act_of, own_edges, value_at}
-use Rattle.board_core.specs.Refusals.{raised_version}
+use Rattle.board_meters.specs.declared.meters.Meters.{Meters}
+use Rattle.board_meters.specs.Meters.{raised_in}
 use Rattle.board_core.specs.private.Kinds.{touches, writes}
 use Rattle.board_core.specs.private.Values.{told, value_with}
 use Rattle.board_core.proofs.Counted.{rises_after-none}
@@ -146,7 +148,7 @@ value-told b n cpu h (HpetWrite offset width v) e = absurd (false≢true (sym e)
 value-told b n cpu h (Ack line) e = absurd (false≢true (sym e))
 value-told b n cpu h _ e = refl
 
-pub raised_none : (ps : List ProcessorParts) (wall hv cpu : ℕ) (a : Access) → writes a ≡ false → raised_version ps wall hv cpu a ≡ None
-raised_none ps wall hv cpu (MsrWrite msr v) e = absurd (false≢true (sym e))
-raised_none ps wall hv cpu (Refresh page) e = absurd (false≢true (sym e))
-raised_none ps wall hv cpu _ e = refl
+pub raised_none : (m : Meters) (cpu : ℕ) (a : Access) → writes a ≡ false → raised_in m cpu a ≡ None
+raised_none m cpu (MsrWrite msr v) e = absurd (false≢true (sym e))
+raised_none m cpu (Refresh page) e = absurd (false≢true (sym e))
+raised_none m cpu _ e = refl

@@ -23,7 +23,8 @@ use Rattle.board_core.specs.Outcome.{HasTaken, IsRefused}
 use Rattle.board_core.specs.Quiet.{IsQuiet}
 use Rattle.board_core.specs.Refusals.{refusal_of}
 use Rattle.board_core.specs.Rises.{rises_after}
-use Rattle.board_core.specs.Time.{HasTime, devices_in, with_devices, now_of, time_of_access}
+use Rattle.board_core.specs.Time.{devices_in, with_devices, now_of, time_of_access}
+use Rattle.host_counter.specs.Time.{HasTime}
 use Rattle.board_core.proofs.Passive.{refusal_of-passive}
 use Rattle.board_core.proofs.Joins.{after_run-zero, after_run-joined, now-after_run, edges-quiet, IsQuiet-after_run, after_access-idle, reply_of-quiet, refusal_of-after_run, step-taken, edges-later, reply_of-later, after_access-later}
 use Rattle.board_core.specs.Lazy.{is_passive, left_by, IsLazy, IsPassed}

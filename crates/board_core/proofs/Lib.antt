@@ -5,7 +5,7 @@ pub mod Nexts
 pub mod ApicTimers
 pub mod Joined
 pub mod Steps
-pub mod Legals
+pub mod Metered
 pub mod Upgrades
 pub mod Counted
 pub mod Kept

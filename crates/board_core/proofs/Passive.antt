@@ -15,7 +15,8 @@ use Rattle.board_devices.specs.Act.{acted, act_edges, value_of}
 use Rattle.board_devices.proofs.ActEdges.{edges-pit_read, edges-hpet_read}
 use Rattle.board_core.specs.Access.{after_run, value_at, before_look, read_of_port, act_of, own_edges}
 use Rattle.board_core.specs.Apics.{apics_in}
-use Rattle.board_core.specs.Refusals.{refusal_of}
+use Rattle.board_core.specs.Refusals.{meters_of, refusal_of}
+use Rattle.board_meters.specs.Meters.{refusal_in}
 use Rattle.board_core.specs.Rises.{rises_after}
 use Rattle.board_core.specs.Time.{devices_in, now_of}
 use Rattle.board_core.specs.Lazy.{is_passive, left_by}
@@ -96,7 +97,7 @@ apics-left (PortIn port) b = refl
 apics-left _ b = refl
 
 pub refusal_of-passive : (x : BoardParts) (cpu h : ℕ) (a : Access) → is_passive a ≡ true → refusal_of x cpu h a ≡ refusal_of x cpu h Step
-unfolding refusal_of
+unfolding refusal_in meters_of
 refusal_of-passive x cpu h = by-kind (λ a. refusal_of x cpu h a ≡ refusal_of x cpu h Step) refl (λ offset width. refl) (λ port is. refl)
 
 -- the value doesn't depend on how many accesses there were

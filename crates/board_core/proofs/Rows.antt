@@ -22,9 +22,12 @@ use Rattle.board_types.specs.declared.setup.Setup.{Setup}
 use Rattle.board_devices.specs.declared.act.Act.TheVariants.{PitRead, PitWrite, IndexRead, IndexWrite, ClockRead, ClockWrite, Nothing}
 use Rattle.board_core.specs.Time.{now_of, time_of_access}
 use Rattle.board_core.specs.Tsc.{no_processor, msr_read, msr_written}
-use Rattle.board_core.specs.Pages.{published, page_in, published_by, page_reply, clamped, greatest_with}
-use Rattle.board_core.specs.Wall.{wall_number_after, wall_version_after, wall_words}
-use Rattle.board_core.specs.Refusals.{refusal_of}
+use Rattle.board_core.specs.Pages.{published, page_in, page_reply, clamped, greatest_with}
+use Rattle.board_meters.specs.Published.{published_by}
+use Rattle.board_core.specs.Wall.{wall_number_after, wall_words}
+use Rattle.board_meters.specs.Published.{wall_version_after}
+use Rattle.board_core.specs.Refusals.{meters_of, refusal_of}
+use Rattle.board_meters.specs.Meters.{refusal_in}
 use Rattle.board_core.specs.Rises.{rises_after, count_at}
 use Rattle.board_core.specs.Access.{act_of}
 use Rattle.board_core.specs.Lazy.{is_passive, left_by}
@@ -151,11 +154,11 @@ spent_board version accesses = record board { accesses = accesses; wall_version 
 
 no_time : map (λ h. refusal_of (spent_board 4294967294 (2 ^ 62)) 0 h (Refresh 0)) (99 ∷ (100 + 2 ^ 59 - 5000) ∷ [])
     ≡ Some (NoTime (BeforeStart 100)) ∷ Some (NoTime (OutOfRange (2 ^ 59))) ∷ []
-unfolding refusal_of time_at
+unfolding refusal_in meters_of time_at
 no_time = refl
 
 last_time : refusal_of board 0 (100 + 2 ^ 59 - 5001) (Refresh 0) ≡ None
-unfolding refusal_of time_at
+unfolding refusal_in meters_of time_at
 last_time = refl
 
 -- .. the version of what is published: a page by a refresh and by a write of the TSC, the wall clock; a page at the last version but one ..
@@ -165,13 +168,13 @@ versions_spent : refusal_of (spent_board 4294967294 (2 ^ 62)) 0 100 (Refresh 0)
     ∷ refusal_of (spent_board 4294967292 0) 0 100 (Refresh 0)
     ∷ []
     ≡ Some (VersionsSpent 4294967294) ∷ Some (VersionsSpent 4294967294) ∷ Some (VersionsSpent 4294967294) ∷ None ∷ []
-unfolding refusal_of time_at
+unfolding refusal_in meters_of time_at
 versions_spent = refl
 
 -- .. and the number of accesses
 accesses_spent : map (λ n. refusal_of (spent_board 4294967294 n) 0 100 Step) ((2 ^ 62 - 1) ∷ 2 ^ 62 ∷ [])
     ≡ None ∷ Some (Spent (2 ^ 62)) ∷ []
-unfolding refusal_of time_at
+unfolding refusal_in meters_of time_at
 accesses_spent = refl
 
 -- the port map; a step does nothing to a device

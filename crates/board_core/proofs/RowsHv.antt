@@ -11,8 +11,10 @@ use Rattle.board_types.specs.declared.parts.BoardParts.{BoardParts}
 use Rattle.board_types.specs.declared.parts.HvParts.{HvParts}
 use Rattle.board_types.specs.Setup.{setup_by_default}
 use Rattle.board_core.specs.Tsc.{no_processor, msr_read}
-use Rattle.board_core.specs.Hv.{no_hv, hv_in, hv_published, hv_written, publishes_hv, hv_after, hv_published_at_host, hv_reply}
-use Rattle.board_core.specs.Refusals.{raised_version}
+use Rattle.board_core.specs.Hv.{no_hv, hv_in, hv_published, hv_written, hv_after, hv_published_at_host, hv_reply}
+use Rattle.board_meters.specs.Published.{publishes_hv}
+use Rattle.board_core.specs.Refusals.{meters_of}
+use Rattle.board_meters.specs.Meters.{raised_in}
 use Rattle.board_core.specs.PowerOn.{board_at_power_on}
 
 abbrev plain : Anchor
@@ -66,6 +68,8 @@ unfolding hv_reply tsc_by units_of reference_time
 page_replies = refl
 
 -- the version that a write raises: the page's own, that of the wall clock, or none
-raised : map (raised_version [] 4 6 0) (MsrWrite 0x40000021 0 ∷ MsrWrite 0x4b564d00 0 ∷ MsrWrite 0x40000020 0 ∷ [])
+raised : map (raised_in (meters_of (record board { wall_version = 4; hv = record no_hv { version = 6 } })) 0)
+    (MsrWrite 0x40000021 0 ∷ MsrWrite 0x4b564d00 0 ∷ MsrWrite 0x40000020 0 ∷ [])
     ≡ Some 6 ∷ Some 4 ∷ None ∷ []
+unfolding meters_of
 raised = refl

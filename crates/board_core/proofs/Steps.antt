@@ -11,7 +11,8 @@ use Rattle.board_devices.specs.Act.{acted}
 use Rattle.board_core.specs.Apics.{apics_in, apics_acted}
 use Rattle.board_core.specs.Time.{devices_in}
 use Rattle.board_core.specs.Pages.{processors_after}
-use Rattle.board_core.specs.Wall.{wall_number_after, wall_version_after}
+use Rattle.board_core.specs.Wall.{wall_number_after}
+use Rattle.board_meters.specs.Published.{wall_version_after}
 use Rattle.board_core.specs.Rises.{rises_after}
 use Rattle.board_core.specs.private.Calls.{apics_ran_to}
 use Rattle.board_core.specs.Access.{act_of, ran_to, after_run, own_edges, before_look}

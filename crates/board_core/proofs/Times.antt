@@ -1,13 +1,10 @@
 -- Times of counts.
-use Rattle.std.proofs.Common.{◌≡◌, ℕ, ◌+◌, ◌-◌, ◌*◌, ◌/◌, ◌<◌, ◌≤◌, max, Bool, true, false, cond, ltb, leb, Some, None, refl, ap, ◌∙◌, inl, inr, arith}
+use Rattle.std.proofs.Common.{◌≡◌, ℕ, ◌+◌, ◌-◌, ◌*◌, ◌/◌, ◌<◌, ◌≤◌, max, ap, ◌∙◌, inl, inr, arith}
 use Rattle.std.proofs.Math.Nat.{mul-div_cancel}
-use Rattle.std.proofs.lemmas.Bool.{cases_lt, ltb-false, leb-false, le-ltb, lt-leb}
-use Rattle.clk_units.specs.declared.ranges.TheConstants.{RANGE_NS}
+use Rattle.std.proofs.lemmas.Bool.{cases_lt}
 use Rattle.host_counter.specs.declared.Anchor.{Anchor}
-use Rattle.host_counter.specs.declared.TimeFault.TheVariants.{BeforeStart, OutOfRange}
 use Rattle.host_counter.specs.Time.{time_at}
 use Rattle.host_counter.proofs.Times.{time_at-mono}
-use Rattle.board_core.specs.Time.{HasTime, time_fault}
 
 -- the time of the greater count
 pub time_at_max : (anchor : Anchor) (g h : ℕ) → 0 < anchor.khz → time_at anchor (max g h) ≡ max (time_at anchor g) (time_at anchor h)
@@ -33,17 +30,3 @@ time_at_counts anchor h rate =
 pub base-first : (anchor : Anchor) (h : ℕ) → anchor.base_ns ≤ time_at anchor h
 unfolding time_at
 base-first anchor h = omega arith
-
--- a count without a fault has a time
-pub time_of-no_fault : (anchor : Anchor) (h : ℕ) → time_fault anchor h ≡ None → HasTime anchor h
-time_of-no_fault anchor h none = by (ltb h anchor.start) (leb RANGE_NS (time_at anchor h)) refl refl none
-  where
-    by : (early late : Bool) → ltb h anchor.start ≡ early → leb RANGE_NS (time_at anchor h) ≡ late
-        → cond early (Some (BeforeStart anchor.start)) (cond late (Some (OutOfRange (time_at anchor h))) None) ≡ None → HasTime anchor h
-    by true late e f n = cc
-    by false true e f n = cc
-    by false false e f n = record { started = ltb-false h anchor.start e; range = leb-false RANGE_NS (time_at anchor h) f }
-
--- and the other way round
-pub no_fault-of_time : (anchor : Anchor) (h : ℕ) → HasTime anchor h → time_fault anchor h ≡ None
-no_fault-of_time anchor h t = rw (le-ltb h anchor.start t.started, lt-leb RANGE_NS (time_at anchor h) t.range) refl

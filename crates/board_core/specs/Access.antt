@@ -50,7 +50,8 @@ use Rattle.board_devices.specs.Act.{acted, act_edges, value_of}
 use Rattle.board_core.specs.Time.{devices_in, with_devices, now_of, time_of_access}
 use Rattle.board_core.specs.Tsc.{msr_read}
 use Rattle.board_core.specs.Pages.{processors_after}
-use Rattle.board_core.specs.Wall.{wall_number_after, wall_version_after, wall_words}
+use Rattle.board_core.specs.Wall.{wall_number_after, wall_words}
+use Rattle.board_meters.specs.Published.{wall_version_after}
 use Rattle.board_core.specs.Hv.{hv_after}
 use Rattle.board_core.specs.Apics.{apics_in, with_apics, apics_acted, after_look}
 use Rattle.board_core.specs.Nanosecond.{ran_for, passed_times}

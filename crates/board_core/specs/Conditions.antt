@@ -39,7 +39,8 @@ use Rattle.board_devices.specs.Places.{line_at}
 use Rattle.board_devices.specs.Lines.{levels}
 use Rattle.board_devices.specs.Parts.{AreDevices}
 use Rattle.board_devices.specs.Rises.{one_if}
-use Rattle.board_core.specs.Time.{HasTime, devices_in, now_of}
+use Rattle.board_core.specs.Time.{devices_in, now_of}
+use Rattle.host_counter.specs.Time.{HasTime}
 use Rattle.board_core.specs.Tsc.{no_processor}
 use Rattle.board_core.specs.Apics.{apics_of, apics_in}
 use Rattle.board_core.specs.Hv.{no_hv}

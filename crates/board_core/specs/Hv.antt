@@ -1,15 +1,6 @@
 -- The reference page of Hyper-V: publishing, and reading (TLFS, "Partition Reference Time
 -- Enlightenment").
-use Rattle.std.specs.Prelude.{
-  ℕ,
-  Bool,
-  false,
-  ◌==◌,
-  nat_le,
-  if◌then◌else◌,
-  List,
-  slice_index_or,
-}
+use Rattle.std.specs.Prelude.{ℕ, ◌==◌, nat_le, if◌then◌else◌, List, slice_index_or}
 use Rattle.clk_units.specs.Bits.{bit}
 use Rattle.host_counter.specs.declared.Anchor.{Anchor}
 use Rattle.host_counter.specs.Time.{time_at}
@@ -62,11 +53,6 @@ hv_published anchor guest_khz h writer p =
 -- a write to its MSR by a processor
 abbrev pub hv_written : ℕ → ℕ → HvParts → HvParts
 hv_written cpu v p = record p { number = v; cpu = cpu }
-
--- whether an access publishes the page: a write to MSR_HV_REFERENCE_TSC does
-abbrev pub publishes_hv : Access → Bool
-publishes_hv (MsrWrite msr v) = msr == MSR_HV_REFERENCE_TSC
-publishes_hv _ = false
 
 -- the page after an access of a processor at count h
 unfoldable pub hv_after :

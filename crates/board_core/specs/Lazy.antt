@@ -24,7 +24,8 @@ use Rattle.board_core.specs.declared.lag.Lag.{Lag}
 use Rattle.board_core.specs.Access.{ran_to, after_run, value_at, reply_of, after_access}
 use Rattle.board_core.specs.Quiet.{IsQuiet}
 use Rattle.board_core.specs.Refusals.{refusal_of}
-use Rattle.board_core.specs.Time.{HasTime, now_of}
+use Rattle.board_core.specs.Time.{now_of}
+use Rattle.host_counter.specs.Time.{HasTime}
 
 -- whether an access changes nothing that time looks at, whatever the board: a step, a read of the HPET's
 -- main counter, whole or its low half, and a read of a port of the 8254

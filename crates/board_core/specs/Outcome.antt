@@ -20,7 +20,7 @@ use Rattle.std.specs.Prelude.{
 use Rattle.std.specs.List.{All}
 use Rattle.irq_edges.specs.Lines.{IsOfLine}
 use Rattle.host_counter.specs.declared.TimeFault.{TimeFault}
-use Rattle.host_counter.specs.Time.{IsFaultAt}
+use Rattle.host_counter.specs.Time.{time_fault}
 use Rattle.pvclock_page.specs.declared.page.PageReply.{PageReply}
 use Rattle.pvclock_page.specs.declared.page.ClockReply.{ClockReply}
 use Rattle.board_types.specs.Legal.{is_legal}
@@ -32,7 +32,7 @@ use Rattle.board_types.specs.declared.reply.Reply.{Reply}
 use Rattle.board_core.specs.Access.{ran_to, reply_of, after_access}
 use Rattle.board_core.specs.Pages.{page_reply, clock_reply, after_clock}
 use Rattle.board_core.specs.Refusals.{refusal_of}
-use Rattle.board_core.specs.Time.{HasTime}
+use Rattle.host_counter.specs.Time.{HasTime}
 
 -- such a call asks for an access that is legal on board b, by a processor that it has, and for a reply
 -- without edges and messages in it
@@ -79,7 +79,7 @@ pub record IsPageRead (b : BoardParts) (cpu h : ℕ) (result : Result PageReply 
   where
     pub ok : OnOk result (HasTime b.anchor h)
     pub value : IfOk result (λ r. r ≡ page_reply b cpu h)
-    pub fault : IfErr result (IsFaultAt b.anchor h)
+    pub fault : IfErr result (λ f. time_fault b.anchor h ≡ Some f)
 
 -- the same of a read of the clock, which leaves board `after`
 pub record IsClockRead (b : BoardParts) (cpu h : ℕ) (result : Result ClockReply TimeFault)
@@ -87,5 +87,5 @@ pub record IsClockRead (b : BoardParts) (cpu h : ℕ) (result : Result ClockRepl
   pub ok : OnOk result (HasTime b.anchor h)
   pub value : IfOk result (λ r. r ≡ clock_reply b cpu h)
   pub state : OnOk result (after ≡ after_clock b cpu h)
-  pub fault : IfErr result (IsFaultAt b.anchor h)
+  pub fault : IfErr result (λ f. time_fault b.anchor h ≡ Some f)
   pub unchanged : OnErr result (after ≡ b)

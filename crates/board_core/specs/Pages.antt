@@ -1,20 +1,6 @@
 -- The pages of the paravirtual clock: publishing, reading, and the clamp (Linux, msr.rst,
 -- "MSR_KVM_SYSTEM_TIME_NEW", and pvclock-abi.h).
-use Rattle.std.specs.Prelude.{
-  ℕ,
-  ◌+◌,
-  ◌*◌,
-  ◌==◌,
-  ◌||◌,
-  max,
-  if◌then◌else◌,
-  List,
-  slice_index_or,
-  slice_set,
-  Option,
-  Some,
-  None,
-}
+use Rattle.std.specs.Prelude.{ℕ, ◌+◌, ◌*◌, max, if◌then◌else◌, List, slice_index_or, slice_set, Option, Some, None}
 use Rattle.clk_units.specs.Bits.{bit}
 use Rattle.host_counter.specs.declared.Anchor.{Anchor}
 use Rattle.host_counter.specs.Time.{time_at}
@@ -29,14 +15,10 @@ use Rattle.pvclock_page.specs.declared.page.ClockReply.{ClockReply}
 use Rattle.pvclock_page.specs.declared.page.ClockReply.TheVariants.{Off as ClockOff, On as ClockOn}
 use Rattle.pvclock_page.specs.Reading.{reading_of}
 use Rattle.board_types.specs.declared.access.Access.{Access}
-use Rattle.board_types.specs.declared.access.Access.TheVariants.{Refresh, MsrWrite}
-use Rattle.board_types.specs.declared.access.TheConstants.{
-  MSR_TSC,
-  MSR_TSC_ADJUST,
-  MSR_KVM_SYSTEM_TIME,
-}
+use Rattle.board_types.specs.declared.access.Access.TheVariants.{MsrWrite}
 use Rattle.board_types.specs.declared.parts.BoardParts.{BoardParts}
 use Rattle.board_types.specs.declared.parts.ProcessorParts.{ProcessorParts}
+use Rattle.board_meters.specs.Published.{published_by}
 use Rattle.board_core.specs.Tsc.{no_processor, processor_at, with_tsc, tsc_read, msr_written}
 
 -- a processor's page is published at count h, with these flags: its version goes up by 2, and it
@@ -63,19 +45,6 @@ page_in p = record {
   offset = p.offset;
   enabled = bit 0 p.number;
 }
-
--- the page that a write to an MSR publishes: one to the TSC, TSC_ADJUST or MSR_KVM_SYSTEM_TIME_NEW
--- that of the processor (own)
-abbrev pub page_of_msr : ℕ → ℕ → Option ℕ
-page_of_msr cpu msr =
-    if msr == MSR_TSC || msr == MSR_TSC_ADJUST || msr == MSR_KVM_SYSTEM_TIME then Some cpu
-    else None
-
--- the page that an access of a processor publishes, a Refresh that which it names
-abbrev pub published_by : ℕ → Access → Option ℕ
-published_by cpu (Refresh page) = Some page
-published_by cpu (MsrWrite msr v) = page_of_msr cpu msr
-published_by cpu _ = None
 
 -- what an access does to that processor before its page is published
 abbrev pub prepared : Anchor → ℕ → ℕ → Access → ProcessorParts → ProcessorParts

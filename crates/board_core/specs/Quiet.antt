@@ -5,7 +5,8 @@ use Rattle.local_apics.specs.Parts.{AreIdle}
 use Rattle.board_types.specs.declared.parts.BoardParts.{BoardParts}
 use Rattle.board_core.specs.Access.{ran_to}
 use Rattle.board_core.specs.Apics.{apics_in}
-use Rattle.board_core.specs.Time.{HasTime, now_of, time_of_access}
+use Rattle.board_core.specs.Time.{now_of, time_of_access}
+use Rattle.host_counter.specs.Time.{HasTime}
 
 -- up to count h, if no access comes, no line changes, no timer of the HPET sends a message, and no
 -- timer of a local APIC counts or waits for its deadline

@@ -1,9 +1,5 @@
 -- The time of a board, and what of it runs with time.
-use Rattle.std.specs.Prelude.{ℕ, ◌<◌, ◌≤◌, nat_lt, nat_le, max, Option, Some, None, if◌then◌else◌}
-use Rattle.clk_units.specs.declared.ranges.TheConstants.{RANGE_NS}
-use Rattle.host_counter.specs.declared.Anchor.{Anchor}
-use Rattle.host_counter.specs.declared.TimeFault.{TimeFault}
-use Rattle.host_counter.specs.declared.TimeFault.TheVariants.{BeforeStart, OutOfRange}
+use Rattle.std.specs.Prelude.{ℕ, max}
 use Rattle.host_counter.specs.Time.{time_at}
 use Rattle.board_types.specs.declared.parts.BoardParts.{BoardParts}
 use Rattle.board_devices.specs.declared.parts.DeviceParts.{DeviceParts}
@@ -35,15 +31,3 @@ now_of b = time_at b.anchor b.host
 -- the time of an access at count h: a count before the board's moves no time (own)
 abbrev pub time_of_access : BoardParts → ℕ → ℕ
 time_of_access b h = max (now_of b) (time_at b.anchor h)
-
--- why a count has no time, if it has none: it is before the anchor's, or its time is `RANGE_NS` or
--- more
-abbrev pub time_fault : Anchor → ℕ → Option TimeFault
-time_fault anchor h =
-    if nat_lt h anchor.start then Some (BeforeStart anchor.start)
-    else (if nat_le RANGE_NS (time_at anchor h) then Some (OutOfRange (time_at anchor h)) else None)
-
--- a count has a time: it isn't before the anchor's, and its time is below `RANGE_NS`
-pub record HasTime (anchor : Anchor) (h : ℕ) : Type 0 where
-  pub started : anchor.start ≤ h
-  pub range : time_at anchor h < RANGE_NS

@@ -1,5 +1,5 @@
 -- The words of the wall clock (Linux, msr.rst, "MSR_KVM_WALL_CLOCK_NEW").
-use Rattle.std.specs.Prelude.{ℕ, ◌+◌, Bool, false, ◌==◌, if◌then◌else◌}
+use Rattle.std.specs.Prelude.{ℕ, ◌==◌, if◌then◌else◌}
 use Rattle.board_types.specs.declared.access.Access.{Access}
 use Rattle.board_types.specs.declared.access.Access.TheVariants.{MsrWrite}
 use Rattle.board_types.specs.declared.access.TheConstants.{MSR_KVM_WALL_CLOCK}
@@ -7,19 +7,10 @@ use Rattle.board_types.specs.declared.parts.BoardParts.{BoardParts}
 use Rattle.board_types.specs.declared.reply.Value.{Value}
 use Rattle.board_types.specs.declared.reply.Value.TheVariants.{Wall}
 
--- whether an access publishes the words: a write to MSR_KVM_WALL_CLOCK_NEW does
-abbrev pub publishes_wall : Access → Bool
-publishes_wall (MsrWrite msr v) = msr == MSR_KVM_WALL_CLOCK
-publishes_wall _ = false
-
 -- the number that is kept, and the version after an access: up by 2 with each publishing
 abbrev pub wall_number_after : Access → ℕ → ℕ
 wall_number_after (MsrWrite msr v) number = if msr == MSR_KVM_WALL_CLOCK then v else number
 wall_number_after _ number = number
-
--- the version after an access: up by 2 with each publishing
-abbrev pub wall_version_after : Access → ℕ → ℕ
-wall_version_after a version = if publishes_wall a then version + 2 else version
 
 -- the words: version, seconds and nanoseconds of the wall clock at power on, or 0 before the first
 -- publishing

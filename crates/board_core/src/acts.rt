@@ -2,16 +2,12 @@
 ghost use Rattle.std.specs.Prelude.{◌≡◌, ℕ, ◌+◌, ◌<◌, ◌≤◌, ◌++◌, true, false, length, IsTrue};
 ghost use Rattle.irq_edges.specs.declared.edges.TheConstants.{EDGE_PLACES};
 ghost use Rattle.board_types.specs.Legal.{is_source, is_legal};
-ghost use Rattle.board_types.specs.declared.parts.TheConstants.{LAST_VERSION, MOST_ACCESSES};
+ghost use Rattle.board_types.specs.declared.parts.TheConstants.{MOST_ACCESSES};
 ghost use Rattle.board_devices.specs.Act.{reads_byte, value_of};
 ghost use Rattle.board_core.specs.Time.{devices_in, now_of};
 ghost use Rattle.board_core.specs.Tsc.{msr_read};
-ghost use Rattle.board_core.specs.Wall.{
-  publishes_wall,
-  wall_number_after,
-  wall_version_after,
-  wall_words,
-};
+ghost use Rattle.board_core.specs.Wall.{wall_number_after, wall_words};
+ghost use Rattle.board_meters.specs.Published.{wall_version_after};
 ghost use Rattle.board_core.specs.Apics.{after_look};
 ghost use Rattle.board_core.specs.Access.{
   read_of_port,
@@ -31,9 +27,9 @@ ghost use Rattle.board_core.specs.private.Values.{told, value_with};
 use crate::apics::act_on_apics;
 use crate::board::BoardState;
 use crate::processors::{publish_by, tsc_read};
-use crate::refusals::publishes_wall;
 use crate::rises::{count_at, count_rises};
 use board_devices::Act;
+use board_meters::{publishes_wall, wall_version_after};
 use board_types::{
     Access, MSR_HV_REFERENCE_TSC, MSR_HV_TIME_REF_COUNT, MSR_KVM_WALL_CLOCK, MSR_TSC,
     MSR_TSC_ADJUST, TickSource, Value,
@@ -322,18 +318,5 @@ fn wall_number_after(a: Access, number: u64) -> u64
             number
         },
         _ => number,
-    }
-}
-
-/// The version of the wall clock's words after an access.
-#[inline(always)]
-pub fn wall_version_after(a: Access, version: u32) -> u32
-    requires { IsTrue (publishes_wall a) → version < LAST_VERSION }
-    ensures { result ≡ wall_version_after a version }
-{
-    if publishes_wall(a) {
-        version + 2
-    } else {
-        version
     }
 }

@@ -1,19 +1,12 @@
 //! The reference page of Hyper-V.
 ghost use Rattle.std.specs.Prelude.{◌≡◌, ◌<◌, ◌≤◌, ◌↔◌, OnOk, IfOk, IfErr, IsTrue};
 ghost use Rattle.clk_units.specs.Ranges.{IsKhz};
-ghost use Rattle.host_counter.specs.Time.{IsFaultAt};
+ghost use Rattle.host_counter.specs.Time.{time_fault};
 ghost use Rattle.board_types.specs.declared.parts.TheConstants.{LAST_VERSION};
-ghost use Rattle.board_core.specs.Time.{HasTime};
+ghost use Rattle.host_counter.specs.Time.{HasTime};
 ghost use Rattle.board_core.specs.Conditions.{AreRates, IsVersion, IsHv};
-ghost use Rattle.board_core.specs.Hv.{
-  hv_in,
-  with_page,
-  hv_published,
-  publishes_hv,
-  hv_after,
-  hv_published_at_host,
-  hv_reply,
-};
+ghost use Rattle.board_core.specs.Hv.{hv_in, with_page, hv_published, hv_after, hv_published_at_host, hv_reply};
+ghost use Rattle.board_meters.specs.Published.{publishes_hv};
 
 use crate::board::BoardState;
 use crate::processors::{time_of, tsc_read};
@@ -47,7 +40,7 @@ impl BoardState {
     pub fn hv_of(&self, h: u64) -> Result<HvReply, TimeFault>
         ensures ok { OnOk result (HasTime self.now.anchor h) }
         ensures value { IfOk result (λ r. r ≡ hv_reply self.now h) }
-        ensures fault { IfErr result (IsFaultAt self.now.anchor h) }
+        ensures fault { IfErr result (λ f. time_fault self.now.anchor h ≡ Some f) }
     {
         self.time_to(h)?;
         let tsc = tsc_by(
@@ -151,17 +144,6 @@ fn hv_published(
         withdrawn(&before)
     };
     with_page(p, &page)
-}
-
-/// Whether an access publishes the page.
-#[inline(always)]
-pub fn publishes_hv(a: Access) -> bool
-    ensures { result ≡ publishes_hv a }
-{
-    match a {
-        Access::MsrWrite { msr, .. } => msr == MSR_HV_REFERENCE_TSC,
-        _ => false,
-    }
 }
 
 /// Whether the fields of the reference page are valid.

@@ -10,8 +10,9 @@
 //! the next edge, some eight runs. Any other access forgets it.
 ghost use Rattle.std.specs.Prelude.{◌≡◌, ◌<◌, IsTrue, IsSome, Some, IfOk, IfErr, OnOk};
 ghost use Rattle.std.specs.Bool.{OnTrue, OnFalse};
-ghost use Rattle.host_counter.specs.Time.{IsFaultAt};
-ghost use Rattle.board_core.specs.Time.{HasTime, now_of};
+ghost use Rattle.host_counter.specs.Time.{time_fault};
+ghost use Rattle.board_core.specs.Time.{now_of};
+ghost use Rattle.host_counter.specs.Time.{HasTime};
 ghost use Rattle.board_types.specs.Legal.{is_legal};
 ghost use Rattle.board_core.specs.Refusals.{refusal_of};
 ghost use Rattle.board_core.specs.Outcome.{IsAsked, HasTaken, IsRefused, IsPageRead, IsClockRead};
@@ -134,7 +135,7 @@ impl LazyBoard {
     pub fn hv_of(&self, h: u64) -> Result<HvReply, TimeFault>
         ensures ok { OnOk result (HasTime self.now.anchor h) }
         ensures value { IfOk result (λ r. r ≡ hv_reply self.now h) }
-        ensures fault { IfErr result (IsFaultAt self.now.anchor h) }
+        ensures fault { IfErr result (λ f. time_fault self.now.anchor h ≡ Some f) }
     {
         self.board.hv_of(h)
     }

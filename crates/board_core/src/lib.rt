@@ -28,8 +28,8 @@ mod processors;
 mod refusals;
 mod rises;
 
-pub use acts::wall_version_after;
 pub use board::BoardState;
+pub use board_meters::{Meters, Tally, published_by, publishes_hv};
 pub use board_types::{
     APIC_FORMAT, Access, BoardParts, HV_FORMAT, HvParts, LAST_FORMAT, LAST_VERSION, MESSAGE_FORMAT,
     MOST_ACCESSES, MSR_APIC_CURRENT, MSR_APIC_DIVIDE, MSR_APIC_INITIAL, MSR_APIC_LVT,
@@ -37,8 +37,6 @@ pub use board_types::{
     MSR_TSC_ADJUST, MSR_TSC_DEADLINE, ProcessorParts, Ran, Refusal, Reply, SECOND_NS, SLEW_MAX_NS,
     Setup, TickSource, Value, processors_of, timers_of,
 };
-pub use hv::{NO_HV, publishes_hv};
+pub use hv::NO_HV;
 pub use lag::{Lag, NO_LAG, is_passive};
 pub use lazy::LazyBoard;
-pub use processors::published_by;
-pub use refusals::{publishes_wall, spent_accesses, spent_version};

@@ -11,6 +11,7 @@ ghost use Rattle.std.specs.Prelude.{
   IsSome,
   IfSome,
   length,
+  map,
   slice_index_or,
 };
 ghost use Rattle.std.specs.Option.{SomeIff};
@@ -23,7 +24,8 @@ ghost use Rattle.local_apics.specs.Parts.{AreApicsOf};
 ghost use Rattle.local_apics.specs.Places.{no_timer};
 ghost use Rattle.board_devices.specs.Lines.{levels};
 ghost use Rattle.board_devices.specs.Places.{no_line};
-ghost use Rattle.board_core.specs.Time.{HasTime, devices_in};
+ghost use Rattle.board_core.specs.Time.{devices_in};
+ghost use Rattle.host_counter.specs.Time.{HasTime};
 ghost use Rattle.board_core.specs.Apics.{apics_of, apics_in};
 ghost use Rattle.board_core.specs.Conditions.{
   IsFormat,
@@ -35,6 +37,7 @@ ghost use Rattle.board_core.specs.Conditions.{
   IsJoined,
   IsBoard,
 };
+ghost use Rattle.board_core.specs.Refusals.{meters_of};
 ghost use Rattle.board_core.specs.private.Places.{IsPlace, IsCount};
 
 use crate::apics::{apics_in, apics_of};
@@ -42,6 +45,7 @@ use crate::board::BoardState;
 use crate::hv::is_hv;
 use crate::processors::NO_PROCESSOR;
 use board_devices::{DeviceParts, Devices};
+use board_meters::{Meters, Tally};
 use board_types::{
     BoardParts, HvParts, LAST_FORMAT, MOST_ACCESSES, ProcessorParts, SECOND_NS, has_messages,
     processors_of, timers_of,
@@ -172,6 +176,23 @@ impl BoardState {
         ensures { result ≡ self.now.hv }
     {
         self.hv
+    }
+
+    /// The meters of the board, which go on without it.
+    #[tactic(auto, unfolding(crate::specs::Refusals::meters_of))]
+    pub fn tally(&self) -> Tally
+        ensures { result ≡ meters_of self.now }
+    {
+        Tally::of_meters(Meters {
+            format: self.format,
+            cpus: self.cpus,
+            anchor: self.anchor,
+            host: self.host,
+            accesses: self.accesses,
+            wall_version: self.wall_version,
+            hv_version: self.hv.version,
+            versions: versions_of(&self.processors),
+        })
     }
 
     /// The board with these fields, or None exactly where a condition on them fails.
@@ -382,4 +403,15 @@ fn are_joined(parts: &BoardParts, time_ns: u64, lines: &Lines) -> bool
         && are_rises(parts.format, parts.accesses, lines, &parts.rises)
         && are_due(&parts.apic_ticks, time_ns + parts.accesses)
         && is_hv(&parts.hv, parts.format, parts.guest_khz, parts.cpus)
+}
+
+/// The versions of all pages.
+fn versions_of(processors: &[ProcessorParts; 64]) -> [u32; 64]
+    ensures { result ≡ map (λ p. p.version) processors.now }
+{
+    let mut versions = [0; 64];
+    for k in 0..64 {
+        versions[k] = processors[k].version;
+    }
+    versions
 }

@@ -5,7 +5,6 @@ ghost use Rattle.std.specs.Prelude.{
   ◌*◌,
   ◌<◌,
   ◌==◌,
-  ◌||◌,
   IfSome,
   slice_index_or,
   if◌then◌else◌,
@@ -14,20 +13,14 @@ ghost use Rattle.clk_units.specs.Ranges.{IsKhz};
 ghost use Rattle.host_counter.specs.Time.{time_at};
 ghost use Rattle.board_types.specs.declared.parts.TheConstants.{LAST_VERSION};
 ghost use Rattle.board_core.specs.Tsc.{no_processor, tsc_of, tsc_read, tsc_after, msr_written};
-ghost use Rattle.board_core.specs.Pages.{
-  published,
-  page_in,
-  published_by,
-  page_of_msr,
-  prepared,
-  published_at,
-  processors_after,
-};
-ghost use Rattle.board_core.specs.Time.{HasTime};
+ghost use Rattle.board_core.specs.Pages.{published, page_in, prepared, published_at, processors_after};
+ghost use Rattle.board_meters.specs.Published.{published_by};
+ghost use Rattle.host_counter.specs.Time.{HasTime};
 ghost use Rattle.board_core.specs.Conditions.{AreRates, IsProcessor};
 ghost use Rattle.pvclock_page.specs.Scale.{mul_for, shift_for};
 
 use crate::refusals::time_anew;
+use board_meters::published_by;
 use board_types::{Access, MSR_KVM_SYSTEM_TIME, MSR_TSC, MSR_TSC_ADJUST, ProcessorParts};
 use clk_units::bit;
 use host_counter::Anchor;
@@ -186,30 +179,6 @@ fn number_after(number: u64, msr: u32, v: u64) -> u64
         v
     } else {
         number
-    }
-}
-
-/// The processor whose page an access of processor `cpu` publishes: a refresh that of the page which it names, and a
-/// write to the TSC, to its adjustment or to MSR_KVM_SYSTEM_TIME that of `cpu`. None where it publishes no page, as a
-/// write to MSR_KVM_WALL_CLOCK, which publishes the words of the wall clock.
-pub fn published_by(cpu: u8, a: Access) -> Option<u8>
-    ensures { result ≡ published_by cpu a }
-{
-    match a {
-        Access::Refresh { page } => Some(page),
-        Access::MsrWrite { msr, .. } => page_of_msr(cpu, msr),
-        _ => None,
-    }
-}
-
-/// The page that a write to an MSR publishes.
-fn page_of_msr(cpu: u8, msr: u32) -> Option<u8>
-    ensures { result ≡ page_of_msr cpu msr }
-{
-    if msr == MSR_TSC || msr == MSR_TSC_ADJUST || msr == MSR_KVM_SYSTEM_TIME {
-        Some(cpu)
-    } else {
-        None
     }
 }
 

@@ -10,31 +10,22 @@ ghost use Rattle.std.specs.Prelude.{
   None,
   Some,
   IsTrue,
+  map,
 };
 ghost use Rattle.clk_units.specs.Ranges.{IsKhz};
 ghost use Rattle.clk_units.specs.declared.ranges.TheConstants.{RANGE_NS};
-ghost use Rattle.host_counter.specs.Time.{IsFaultAt, time_at};
+ghost use Rattle.host_counter.specs.Time.{time_fault, time_at};
 ghost use Rattle.board_types.specs.Legal.{is_legal};
-ghost use Rattle.board_types.specs.declared.parts.TheConstants.{MOST_ACCESSES};
-ghost use Rattle.board_types.specs.declared.reply.Refusal.TheVariants.{Spent};
-ghost use Rattle.board_core.specs.Time.{time_of_access, HasTime};
-ghost use Rattle.board_core.specs.Pages.{published_by};
-ghost use Rattle.board_core.specs.Wall.{publishes_wall};
-ghost use Rattle.board_core.specs.Refusals.{
-  version_at,
-  raised_version,
-  spent_version,
-  spent_accesses,
-  refusal_of,
-};
+ghost use Rattle.board_core.specs.Time.{time_of_access};
+ghost use Rattle.host_counter.specs.Time.{HasTime};
+ghost use Rattle.board_core.specs.Refusals.{meters_of, refusal_of};
+ghost use Rattle.board_meters.specs.Meters.{version_in, raised_in};
+ghost use Rattle.board_meters.specs.Meters.{spent_version, spent_accesses};
 
 use crate::acts::writes;
 use crate::board::BoardState;
-use crate::hv::publishes_hv;
-use crate::processors::published_by;
-use board_types::{
-    Access, LAST_VERSION, MOST_ACCESSES, MSR_KVM_WALL_CLOCK, ProcessorParts, Refusal,
-};
+use board_meters::{published_by, publishes_hv, publishes_wall, spent_accesses, spent_version};
+use board_types::{Access, ProcessorParts, Refusal};
 use clk_units::RANGE_NS;
 use host_counter::{Anchor, TimeFault};
 
@@ -43,7 +34,7 @@ const NANOSECONDS_KHZ: u64 = 1_000_000;
 
 impl BoardState {
     /// The time to which an access at count `h` runs, or why it is refused.
-    #[tactic(auto, unfolding(crate::specs::Refusals::refusal_of))]
+    #[tactic(auto, unfolding(board_meters::specs::Meters::refusal_in, crate::specs::Refusals::meters_of))]
     #[inline(always)]
     pub(crate) fn admit(&self, cpu: u8, h: u64, a: Access) -> Result<u64, Refusal>
         requires cpu { cpu < self.now.cpus }
@@ -56,10 +47,30 @@ impl BoardState {
             Err(fault) => return Err(Refusal::NoTime(fault)),
             Ok(to) => to,
         };
-        let version = raised_version(&self.processors, self.wall_version, self.hv.version, cpu, a);
+        let version = self.raised(cpu, a);
         match spent_version(version, spent_accesses(self.accesses)) {
             Some(refusal) => Err(refusal),
             None => Ok(to),
+        }
+    }
+
+    /// The version that an access would raise. Most accesses publish nothing, which is seen at once.
+    #[tactic(auto, using(crate::proofs::Kept::raised_none), unfolding(crate::specs::Refusals::meters_of))]
+    #[inline(always)]
+    fn raised(&self, cpu: u8, a: Access) -> Option<u32>
+        requires cpu { cpu < self.now.cpus }
+        requires legal { IsTrue (is_legal self.now.cpus self.now.format a) }
+        ensures { result ≡ raised_in (meters_of self.now) cpu a }
+    {
+        if !writes(a) {
+            return None;
+        }
+        if publishes_wall(a) {
+            Some(self.wall_version)
+        } else if publishes_hv(a) {
+            Some(self.hv.version)
+        } else {
+            version_at(published_by(cpu, a), &self.processors)
         }
     }
 
@@ -69,7 +80,7 @@ impl BoardState {
     pub(crate) fn time_to(&self, h: u64) -> Result<u64, TimeFault>
         ensures ok { OnOk result (HasTime self.now.anchor h) }
         ensures time { IfOk result (λ to. to ≡ time_of_access self.now h) }
-        ensures fault { IfErr result (IsFaultAt self.now.anchor h) }
+        ensures fault { IfErr result (λ f. time_fault self.now.anchor h ≡ Some f) }
     {
         if self.anchor.start <= h && h <= self.host {
             return Ok(self.time_ns);
@@ -87,7 +98,7 @@ pub(crate) fn time_anew(anchor: Anchor, h: u64) -> Result<u64, TimeFault>
     requires { IsKhz anchor.khz }
     ensures ok { OnOk result (HasTime anchor h) }
     ensures time { IfOk result (λ ns. ns ≡ time_at anchor h) }
-    ensures fault { IfErr result (IsFaultAt anchor h) }
+    ensures fault { IfErr result (λ f. time_fault anchor h ≡ Some f) }
 {
     match nanoseconds(anchor, h) {
         Some(ns) => Ok(ns),
@@ -129,80 +140,14 @@ pub(crate) fn known_time(anchor: Anchor, h: u64) -> u64
     anchor.time_of(h)
 }
 
-/// Whether an access publishes the words of the wall clock.
-#[inline(always)]
-pub fn publishes_wall(a: Access) -> bool
-    ensures { result ≡ publishes_wall a }
-{
-    match a {
-        Access::MsrWrite { msr, .. } => msr == MSR_KVM_WALL_CLOCK,
-        _ => false,
-    }
-}
-
 /// The version of a page.
+#[tactic(auto, using(crate::proofs::Metered::version_of))]
 fn version_at(page: Option<u8>, processors: &[ProcessorParts; 64]) -> Option<u32>
     requires { IfSome page (λ k. k < 64) }
-    ensures { result ≡ version_at page processors.now }
+    ensures { result ≡ version_in page (map (λ p. p.version) processors.now) }
 {
     match page {
         Some(page) => Some(processors[page as usize].version),
         None => None,
-    }
-}
-
-/// The version that an access would raise. Most accesses publish nothing, which is seen at once.
-#[tactic(auto, using(crate::proofs::Kept::raised_none))]
-#[inline(always)]
-fn raised_version(
-    processors: &[ProcessorParts; 64],
-    wall_version: u32,
-    hv_version: u32,
-    cpu: u8,
-    a: Access,
-) -> Option<u32>
-    requires { IfSome (published_by cpu a) (λ k. k < 64) }
-    ensures { result ≡ raised_version processors.now wall_version hv_version cpu a }
-{
-    if !writes(a) {
-        return None;
-    }
-    if publishes_wall(a) {
-        Some(wall_version)
-    } else if publishes_hv(a) {
-        Some(hv_version)
-    } else {
-        version_at(published_by(cpu, a), processors)
-    }
-}
-
-/// The refusal where the version that an access would raise is the last one, else the next cause.
-#[inline(always)]
-pub fn spent_version(version: Option<u32>, next: Option<Refusal>) -> Option<Refusal>
-    ensures { result ≡ spent_version version next }
-{
-    match version {
-        Some(version) => {
-            if version >= LAST_VERSION {
-                Some(Refusal::VersionsSpent {
-                    version: u64::from(version),
-                })
-            } else {
-                next
-            }
-        }
-        None => next,
-    }
-}
-
-/// The refusal where a board has taken as many accesses as it takes.
-#[inline(always)]
-pub fn spent_accesses(accesses: u64) -> Option<Refusal>
-    ensures { result ≡ spent_accesses accesses }
-{
-    if accesses >= MOST_ACCESSES {
-        Some(Refusal::Spent { number: accesses })
-    } else {
-        None
     }
 }

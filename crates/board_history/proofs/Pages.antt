@@ -52,15 +52,14 @@ use Rattle.pvclock_page.proofs.Scales.{IsScale-mul_for}
 use Rattle.board_types.specs.Legal.{is_legal}
 use Rattle.board_types.specs.declared.access.Access.{Access}
 use Rattle.board_types.specs.declared.access.Access.TheVariants.{MsrWrite, Refresh}
-use Rattle.board_types.specs.declared.access.TheConstants.{MSR_KVM_WALL_CLOCK}
 use Rattle.board_types.specs.declared.parts.BoardParts.{BoardParts}
 use Rattle.board_types.specs.declared.parts.ProcessorParts.{ProcessorParts}
 use Rattle.board_types.specs.declared.parts.TheConstants.{LAST_VERSION}
 use Rattle.board_core.specs.Access.{after_access}
-use Rattle.board_core.specs.Pages.{page_in, page_of_msr, prepared, published, published_at, published_by}
+use Rattle.board_core.specs.Pages.{page_in, prepared, published, published_at}
+use Rattle.board_meters.specs.Published.{published_by}
 use Rattle.board_core.specs.Refusals.{refusal_of}
 use Rattle.board_core.specs.Tsc.{no_processor, processor_at}
-use Rattle.board_core.specs.Wall.{publishes_wall}
 use Rattle.board_core.proofs.Joined.{prepared-version}
 use Rattle.board_core.proofs.Laws.{
   processors-are,
@@ -79,22 +78,15 @@ use Rattle.board_core.proofs.Laws.{
   taken_hv,
   version-published,
 }
-use Rattle.board_core.specs.Hv.{hv_in, publishes_hv}
-use Rattle.board_core.proofs.Legals.{page-or-hv}
+use Rattle.board_core.specs.Hv.{hv_in}
+use Rattle.board_meters.specs.Published.{publishes_hv}
+use Rattle.board_meters.proofs.Publishing.{page-or-hv}
 use Rattle.board_types.specs.declared.parts.HvParts.{HvParts}
 use Rattle.pvclock_page.specs.declared.page.Page.{Page}
 use Rattle.hv_page.specs.Words.{as_page}
 use Rattle.std.proofs.Common.{eq-eqb}
 use Rattle.board_history.specs.Machine.{machine_of, page_at, page_published}
 use Rattle.board_history.specs.private.Steady.{IsSteady, IsSteadyPage}
-
--- an access that publishes a page publishes no words of the wall clock
-pub publishes_wall-page : (cpu k : ℕ) (a : Access) → published_by cpu a ≡ Some k → publishes_wall a ≡ false
-publishes_wall-page cpu k (MsrWrite msr v) is = dite (ℕ_discrete msr MSR_KVM_WALL_CLOCK)
-    (λ e. let none : None ≡ Some k = ap (page_of_msr cpu) (sym e) ∙ is in absurd (cc none))
-    (λ ne. ne_eqb msr MSR_KVM_WALL_CLOCK ne)
-publishes_wall-page cpu k (Refresh page) is = refl
-publishes_wall-page cpu k _ is = absurd (cc is)
 
 -- the page that a legal access publishes is one of the board's
 pub published_by-legal : (cpus format cpu k : ℕ) (a : Access) → cpu < cpus → IsTrue (is_legal cpus format a)
@@ -309,7 +301,7 @@ access-steady b cpu h a s inside legal taken = record {
         let low = published_by-legal b.cpus b.format cpu k a inside legal one in
         let ne : k ≢ b.cpus = λ e. omega arith in
         let same = prepared-version b.anchor b.guest_khz h a (processor_at b k) in
-        let less = taken_page b cpu h a taken k (publishes_wall-page cpu k a one) one in
+        let less = taken_page b cpu h a taken k one in
         let was : IsSteadyPage (page_in (processor_at b k)) = subst IsSteadyPage (at-page b k ne) (s.pages k) in
         let even = was.even in
         let places = s.places in
@@ -322,10 +314,6 @@ access-steady b cpu h a s inside legal taken = record {
     by (Some k) is j = dite (ℕ_discrete j k)
         (λ e. subst (λ (i : ℕ). IsSteadyPage (page_at (after_access b cpu h a) i)) (sym e) (here k is (publishes_hv a) refl))
         (λ ne. subst IsSteadyPage (sym (page_at-else b cpu h k j a is ne)) (s.pages j))
-
--- where an access publishes the page of no processor, all processors stay
-pub processor_at-none : (b : BoardParts) (cpu h j : ℕ) (a : Access) → published_by cpu a ≡ None → processor_at (after_access b cpu h a) j ≡ processor_at b j
-processor_at-none b cpu h j a none = ap (λ (ps : List ProcessorParts). get_or ps j no_processor) (processors-none b cpu h a none)
 
 -- the page of the table that a taken access publishes is not at its last version
 pub taken_table : (b : BoardParts) (cpu h k : ℕ) (a : Access) → cpu < b.cpus → IsTrue (is_legal b.cpus b.format a) → refusal_of b cpu h a ≡ None
@@ -341,4 +329,4 @@ taken_table b cpu h k a inside legal taken is = by (publishes_hv a) refl
         let one : published_by cpu a ≡ Some k = sym (ap (λ (t : Bool). cond t (Some b.cpus) (published_by cpu a)) hv) ∙ is in
         let low = published_by-legal b.cpus b.format cpu k a inside legal one in
         let v = ap (λ (p : Page). p.version) (at-page b k (λ e. omega arith)) in
-        let less = taken_page b cpu h a taken k (publishes_wall-page cpu k a one) one in omega arith
+        let less = taken_page b cpu h a taken k one in omega arith

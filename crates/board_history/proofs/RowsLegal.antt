@@ -16,7 +16,8 @@ use Rattle.board_core.specs.Tsc.{no_processor}
 use Rattle.board_core.specs.Access.{bursts_to, reply_of, after_run, value_at, edges_of, after_access, after_act, before_look}
 use Rattle.board_core.specs.Apics.{after_look}
 use Rattle.board_core.specs.Pages.{published, processors_after}
-use Rattle.board_core.specs.Refusals.{refusal_of}
+use Rattle.board_core.specs.Refusals.{meters_of}
+use Rattle.board_meters.specs.Meters.{refusal_in}
 use Rattle.board_devices.specs.Run.{run, onward}
 use Rattle.board_devices.specs.Lines.{levels}
 use Rattle.board_devices.specs.Nanosecond.{at_nanosecond, pit_pulse, rtc_pulse, hpet_pulse, catch_up_point}
@@ -126,7 +127,7 @@ abbrev enable_of_0 : ℕ → Entry
 enable_of_0 number = Board 0 0 0 (MsrWrite 0x4b564d01 1) (record { number = number; value = Nothing; edges = []; bursts = bursts_to at_power_on 0 })
 
 processor_0_is_first : IsLegal (Opened at_power_on ∷ enable_of_0 1 ∷ PageRead 0 0 4 page false ∷ Clamp 0 0 4 4 ∷ step_of_1 0 2 ∷ step_of_1 3 3 ∷ [])
-unfolding refusal_of time_at reply_of after_run value_at edges_of run onward after_access after_act before_look after_look
+unfolding refusal_in meters_of time_at reply_of after_run value_at edges_of run onward after_access after_act before_look after_look
     processors_after published tsc_by mul_for shift_for reading_of acted first_part levels at_nanosecond pit_pulse rtc_pulse hpet_pulse catch_up_point falls_at pulses_by rtc_at_power_on with_time
 processor_0_is_first = (
   record { cpu_below = omega arith; legal = refl; taken = refl; reply = refl },
@@ -143,7 +144,7 @@ processor_0_is_first = (
 )
 
 processor_1_is_first : IsLegal (Opened at_power_on ∷ step_of_1 0 1 ∷ enable_of_0 2 ∷ step_of_1 3 3 ∷ PageRead 0 0 4 page false ∷ Clamp 0 0 4 4 ∷ [])
-unfolding refusal_of time_at reply_of after_run value_at edges_of run onward after_access after_act before_look after_look
+unfolding refusal_in meters_of time_at reply_of after_run value_at edges_of run onward after_access after_act before_look after_look
     processors_after published tsc_by mul_for shift_for reading_of acted first_part levels at_nanosecond pit_pulse rtc_pulse hpet_pulse catch_up_point falls_at pulses_by rtc_at_power_on with_time
 processor_1_is_first = (
   record { cpu_below = omega arith; legal = refl; taken = refl; reply = refl },

@@ -4,13 +4,15 @@ use Rattle.host_counter.specs.declared.Anchor.{Anchor}
 use Rattle.tsc_scale.specs.Ratio.{ratio_of}
 use Rattle.pvclock_page.specs.declared.page.Page.{Page}
 use Rattle.hv_page.specs.Words.{as_page}
-use Rattle.board_core.specs.Hv.{hv_in, publishes_hv}
+use Rattle.board_core.specs.Hv.{hv_in}
+use Rattle.board_meters.specs.Published.{publishes_hv}
 use Rattle.board_types.specs.declared.access.Access.{Access}
 use Rattle.board_types.specs.declared.parts.BoardParts.{BoardParts}
 use Rattle.board_types.specs.Setup.{setup_by_default}
 use Rattle.board_core.specs.PowerOn.{board_at_power_on}
 use Rattle.board_core.specs.Tsc.{processor_at}
-use Rattle.board_core.specs.Pages.{page_in, published_by}
+use Rattle.board_core.specs.Pages.{page_in}
+use Rattle.board_meters.specs.Published.{published_by}
 
 -- the page k of a board's table: those of the processors, and after the last the reference page
 -- of Hyper-V, which is all 0 where the format has none (own)

@@ -6,6 +6,8 @@ mod board_core_tests;
 #[cfg(test)]
 mod board_history_tests;
 #[cfg(test)]
+mod board_meters_tests;
+#[cfg(test)]
 mod board_reset_tests;
 #[cfg(test)]
 mod boards;

@@ -7,7 +7,7 @@ use Rattle.host_counter.specs.Time.{time_at}
 use Rattle.host_counter.proofs.Times.{time_at-mono}
 use Rattle.clk_units.specs.Ranges.{IsKhz}
 use Rattle.clk_units.specs.declared.ranges.TheConstants.{RANGE_NS}
-use Rattle.board_core.specs.Time.{HasTime}
+use Rattle.host_counter.specs.Time.{HasTime}
 use Rattle.clockboard_c.specs.Shared.{last_count, AreTimes}
 use Rattle.clockboard_c.specs.Timer.{count_of, IsFirstCount}
 

@@ -13,7 +13,8 @@ use Rattle.board_devices.specs.Run.{Ran, run, onward}
 use Rattle.board_devices.specs.declared.act.Act.{Act}
 use Rattle.board_devices.specs.Act.{acted}
 use Rattle.board_devices.proofs.PortReads.{after_pit_read, run-read}
-use Rattle.board_core.specs.Time.{devices_in, now_of, time_of_access, time_fault}
+use Rattle.board_core.specs.Time.{devices_in, now_of, time_of_access}
+use Rattle.host_counter.specs.Time.{time_fault}
 use Rattle.board_core.specs.Conditions.{IsJoined}
 use Rattle.board_core.specs.Lazy.{is_passive, left_by, caught_up, no_lag, IsLazy, IsPassed}
 use Rattle.board_core.proofs.Joins.{after_run-zero}

@@ -36,8 +36,8 @@ use Rattle.board_types.specs.declared.reply.Refusal.{Refusal}
 use Rattle.board_types.specs.Legal.{is_legal}
 use Rattle.board_core.specs.Time.{now_of}
 use Rattle.board_core.specs.Access.{edges_of, reply_of, after_access}
-use Rattle.board_core.specs.Hv.{publishes_hv}
-use Rattle.board_core.specs.Pages.{published_by}
+use Rattle.board_meters.specs.Published.{publishes_hv}
+use Rattle.board_meters.specs.Published.{published_by}
 use Rattle.board_core.specs.Refusals.{refusal_of}
 use Rattle.clockboard_c.specs.Kept.{CallerBoard, LaggingBoard, seen}
 use Rattle.clockboard_c.specs.declared.board.TheConstants.{SEAL}

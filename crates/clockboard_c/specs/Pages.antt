@@ -6,7 +6,8 @@ use Rattle.pvclock_page.specs.Guest.{guest_bytes}
 use Rattle.pvclock_page.specs.declared.page.ClockReply.{ClockReply}
 use Rattle.pvclock_page.specs.declared.page.ClockReply.TheVariants.{Off, On}
 use Rattle.board_types.specs.declared.parts.BoardParts.{BoardParts}
-use Rattle.board_core.specs.Time.{now_of, time_fault}
+use Rattle.board_core.specs.Time.{now_of}
+use Rattle.host_counter.specs.Time.{time_fault}
 use Rattle.board_core.specs.Tsc.{processor_at}
 use Rattle.board_core.specs.Pages.{page_in, clock_reply, after_clock}
 use Rattle.clockboard_c.specs.Kept.{CallerBoard}

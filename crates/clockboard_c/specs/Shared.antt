@@ -15,7 +15,7 @@ use Rattle.hv_page.specs.Words.{as_page, of_page}
 use Rattle.hv_page.specs.Time.{reply}
 use Rattle.board_types.specs.declared.parts.BoardParts.{BoardParts}
 use Rattle.board_types.specs.declared.setup.TheConstants.{HV_FORMAT}
-use Rattle.board_core.specs.Time.{HasTime}
+use Rattle.host_counter.specs.Time.{HasTime}
 use Rattle.board_core.specs.Tsc.{processor_at}
 use Rattle.board_core.specs.Hv.{hv_in}
 use Rattle.board_core.specs.Pages.{page_in, with_greatest}

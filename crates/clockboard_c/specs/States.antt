@@ -34,8 +34,8 @@ use Rattle.save_state.specs.declared.fault.StateKind.TheVariants.{
 use Rattle.save_state.specs.Reading.{board_in}
 use Rattle.save_state.specs.Table.{fault_of}
 use Rattle.save_state.specs.Writing.{bytes_of}
-use Rattle.transfer.specs.declared.outcome.MoveFault.{MoveFault}
-use Rattle.transfer.specs.declared.outcome.MoveFault.TheVariants.{OutOfRange, VersionsSpent}
+use Rattle.board_meters.specs.declared.meters.MoveFault.{MoveFault}
+use Rattle.board_meters.specs.declared.meters.MoveFault.TheVariants.{OutOfRange, VersionsSpent}
 use Rattle.transfer.specs.Move.{move_fault, moved_to, gap_bursts}
 use Rattle.clockboard_c.specs.Kept.{CallerBoard}
 use Rattle.clockboard_c.specs.declared.board.TheConstants.{SEAL}

@@ -1,8 +1,9 @@
 //! Hyper-V's reference page, and the time that it gives.
 ghost use Rattle.std.specs.Prelude.{◌≡◌, OnOk, IfOk, IfErr};
-ghost use Rattle.host_counter.specs.Time.{IsFaultAt};
+ghost use Rattle.host_counter.specs.Time.{time_fault};
 ghost use Rattle.board_core.specs.Lazy.{caught_up};
-ghost use Rattle.board_core.specs.Time.{HasTime, now_of};
+ghost use Rattle.board_core.specs.Time.{now_of};
+ghost use Rattle.host_counter.specs.Time.{HasTime};
 ghost use Rattle.board_core.specs.Hv.{hv_reply};
 ghost use Rattle.clockboard_c.specs.Kept.{seen};
 ghost use Rattle.clockboard_c.specs.Replies.{IsReply};
@@ -114,7 +115,7 @@ fn tell_hv_time(state: &BoardState, lag: &Lag, now_ns: u64, host: u64, reply: &m
 fn lagging_hv_of(state: &BoardState, lag: &Lag, h: u64) -> Result<HvReply, TimeFault>
     ensures ok { OnOk result (HasTime (caught_up state.now lag.now).anchor h) }
     ensures value { IfOk result (λ r. r ≡ hv_reply (caught_up state.now lag.now) h) }
-    ensures fault { IfErr result (IsFaultAt (caught_up state.now lag.now).anchor h) }
+    ensures fault { IfErr result (λ f. time_fault (caught_up state.now lag.now).anchor h ≡ Some f) }
 {
     let _lag = lag;
     state.hv_of(h)

@@ -1,9 +1,9 @@
 -- Small rows that pin the definitions of a time and of a fault.
-use Rattle.std.proofs.Common.{◌≡◌, ◌-◌, [], ◌∷◌, refl, arith}
+use Rattle.std.proofs.Common.{◌≡◌, ◌+◌, ◌-◌, [], ◌∷◌, map, Some, None, refl, arith}
 use Rattle.clk_units.specs.declared.ranges.TheConstants.{RANGE_NS}
 use Rattle.host_counter.specs.declared.Anchor.{Anchor}
 use Rattle.host_counter.specs.declared.TimeFault.TheVariants.{BeforeStart, OutOfRange}
-use Rattle.host_counter.specs.Time.{time_at, set_anew, IsTimeAt, IsFaultAt, IsJustBehind}
+use Rattle.host_counter.specs.Time.{time_at, time_fault, HasTime, set_anew, IsTimeAt, IsJustBehind}
 
 -- a counter of 1 GHz, whose counts are nanoseconds
 abbrev plain : Anchor
@@ -32,18 +32,18 @@ last_time = record { started = omega arith; value = refl; in_range = omega arith
 past_the_range : IsTimeAt plain RANGE_NS RANGE_NS → ⊥
 past_the_range time = omega (arith, time.in_range)
 
-first_time_past_the_range : IsFaultAt plain RANGE_NS (OutOfRange RANGE_NS)
+-- the faults: a count before the anchor's, and a time past the range; a count that is both is before the anchor's
+faults : map (time_fault later) (499 ∷ 500 ∷ (500 + RANGE_NS - 8) ∷ (500 + RANGE_NS - 7) ∷ [])
+    ≡ Some (BeforeStart 500) ∷ None ∷ None ∷ Some (OutOfRange RANGE_NS) ∷ []
 unfolding time_at
-first_time_past_the_range = (omega arith, omega arith, refl)
+faults = refl
 
-no_fault_in_range : IsFaultAt plain (RANGE_NS - 1) (OutOfRange (RANGE_NS - 1)) → ⊥
-no_fault_in_range fault = omega (arith, fault.1)
+the_start_first : time_fault (record { khz = 1000000; start = 500; base_ns = RANGE_NS }) 499 ≡ Some (BeforeStart 500)
+the_start_first = refl
 
-before_the_start : IsFaultAt later 499 (BeforeStart 500)
-before_the_start = (omega arith, refl)
-
-not_at_the_start : IsFaultAt later 500 (BeforeStart 500) → ⊥
-not_at_the_start fault = omega (arith, fault.0)
+has_its_time : HasTime later 500
+unfolding time_at
+has_its_time = record { started = omega arith; range = omega arith }
 
 no_time_before_the_start : IsTimeAt later 499 7 → ⊥
 no_time_before_the_start time = omega (arith, time.started)

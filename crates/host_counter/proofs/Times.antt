@@ -1,10 +1,12 @@
 -- Lemmas on the time that an anchor gives.
-use Rattle.std.proofs.Common.{◌≡◌, ℕ, ◌+◌, ◌-◌, ◌*◌, ◌/◌, ◌%◌, ◌<◌, ◌≤◌, max, sym, ap, ◌∙◌, inl, inr, arith}
+use Rattle.std.proofs.Common.{◌≡◌, ℕ, ◌+◌, ◌-◌, ◌*◌, ◌/◌, ◌%◌, ◌<◌, ◌≤◌, max, Bool, true, false, cond, ltb, leb, Some, None, refl, sym, ap, ◌∙◌, inl, inr, arith}
 use Rattle.std.proofs.Math.Nat.{div-mul-le_self, zero-div, lt-div-mul-add, div-lt_iff_lt-mul, add-mul-div_right}
 use Rattle.std.proofs.lemmas.Nat.{le-div, div-add-mod'}
-use Rattle.std.proofs.lemmas.Bool.{cases_lt}
+use Rattle.std.proofs.lemmas.Bool.{cases_lt, ltb-false, leb-false, le-ltb, lt-leb}
+use Rattle.clk_units.specs.declared.ranges.TheConstants.{RANGE_NS}
+use Rattle.host_counter.specs.declared.TimeFault.TheVariants.{BeforeStart, OutOfRange}
 use Rattle.host_counter.specs.declared.Anchor.{Anchor}
-use Rattle.host_counter.specs.Time.{time_at, set_anew, IsTimeAt, IsJustBehind}
+use Rattle.host_counter.specs.Time.{time_at, time_fault, HasTime, set_anew, IsTimeAt, IsJustBehind}
 
 -- time never falls as the counter grows
 pub time_at-mono : (anchor : Anchor) (earlier h : ℕ) → 0 < anchor.khz → earlier ≤ h → time_at anchor earlier ≤ time_at anchor h
@@ -79,3 +81,17 @@ pub time_at-split : (anchor : Anchor) (h : ℕ) → 0 < anchor.khz
     → time_at anchor h ≡ anchor.base_ns + ((h - anchor.start) / anchor.khz * 1000000 + (h - anchor.start) % anchor.khz * 1000000 / anchor.khz)
 unfolding time_at
 time_at-split anchor h runs = ap (λ (n : ℕ). anchor.base_ns + n) (sym (since-split (h - anchor.start) anchor.khz runs))
+
+-- a count without a fault has a time
+pub time_of-no_fault : (anchor : Anchor) (h : ℕ) → time_fault anchor h ≡ None → HasTime anchor h
+time_of-no_fault anchor h none = by (ltb h anchor.start) (leb RANGE_NS (time_at anchor h)) refl refl none
+  where
+    by : (early late : Bool) → ltb h anchor.start ≡ early → leb RANGE_NS (time_at anchor h) ≡ late
+        → cond early (Some (BeforeStart anchor.start)) (cond late (Some (OutOfRange (time_at anchor h))) None) ≡ None → HasTime anchor h
+    by true late e f n = cc
+    by false true e f n = cc
+    by false false e f n = record { started = ltb-false h anchor.start e; range = leb-false RANGE_NS (time_at anchor h) f }
+
+-- and the other way round
+pub no_fault-of_time : (anchor : Anchor) (h : ℕ) → HasTime anchor h → time_fault anchor h ≡ None
+no_fault-of_time anchor h t = rw (le-ltb h anchor.start t.started, lt-leb RANGE_NS (time_at anchor h) t.range) refl

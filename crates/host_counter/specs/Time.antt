@@ -1,5 +1,20 @@
 -- The time that an anchor gives to a count of the host's counter.
-use Rattle.std.specs.Prelude.{◌≡◌, ℕ, ◌+◌, ◌-◌, ◌*◌, ◌/◌, ◌<◌, ◌≤◌}
+use Rattle.std.specs.Prelude.{
+  ◌≡◌,
+  ℕ,
+  ◌+◌,
+  ◌-◌,
+  ◌*◌,
+  ◌/◌,
+  ◌<◌,
+  ◌≤◌,
+  nat_lt,
+  nat_le,
+  Option,
+  Some,
+  None,
+  if◌then◌else◌,
+}
 use Rattle.clk_units.specs.declared.ranges.TheConstants.{RANGE_NS}
 use Rattle.host_counter.specs.declared.Anchor.{Anchor}
 use Rattle.host_counter.specs.declared.TimeFault.{TimeFault}
@@ -19,10 +34,17 @@ pub record IsTimeAt (anchor : Anchor) (h ns : ℕ) : Type 0 where
   pub value : ns ≡ time_at anchor h
   pub in_range : ns < RANGE_NS
 
--- the fault at count h: a count before the anchor comes first, then a time past the range
-abbrev pub IsFaultAt : Anchor → ℕ → TimeFault → Type 0
-IsFaultAt anchor h (BeforeStart start) = (h < anchor.start) × (start ≡ anchor.start)
-IsFaultAt anchor h (OutOfRange ns) = (anchor.start ≤ h) × (RANGE_NS ≤ ns) × (ns ≡ time_at anchor h)
+-- why a count has no time, if it has none: it is before the anchor's, or its time is `RANGE_NS` or
+-- more
+abbrev pub time_fault : Anchor → ℕ → Option TimeFault
+time_fault anchor h =
+    if nat_lt h anchor.start then Some (BeforeStart anchor.start)
+    else (if nat_le RANGE_NS (time_at anchor h) then Some (OutOfRange (time_at anchor h)) else None)
+
+-- a count has a time: it isn't before the anchor's, and its time is below `RANGE_NS`
+pub record HasTime (anchor : Anchor) (h : ℕ) : Type 0 where
+  pub started : anchor.start ≤ h
+  pub range : time_at anchor h < RANGE_NS
 
 -- a time is another one, or the nanosecond before it
 pub record IsJustBehind (ns other : ℕ) : Type 0 where

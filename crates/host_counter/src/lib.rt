@@ -42,7 +42,7 @@ pub enum TimeFault {
 }
 
 impl Anchor {
-    ghost use Rattle.host_counter.specs.Time.{time_at, set_anew, IsTimeAt, IsFaultAt, IsJustBehind};
+    ghost use Rattle.host_counter.specs.Time.{time_at, set_anew, IsTimeAt, time_fault, IsJustBehind};
     ghost use Rattle.host_counter.specs.declared.Anchor.{Anchor};
 
     /// The time at count `h` in nanoseconds, rounded down. It is below `clk_units::RANGE_NS`. The rate is
@@ -51,7 +51,7 @@ impl Anchor {
     pub fn time(&self, h: u64) -> Result<u64, TimeFault>
         requires { IsKhz self.now.khz }
         ensures ok { IfOk result (IsTimeAt self.now h) }
-        ensures fault { IfErr result (IsFaultAt self.now h) }
+        ensures fault { IfErr result (λ f. time_fault self.now h ≡ Some f) }
 
         // Time never falls as the counter grows, and a clock that is set anew goes on: it is at each later
         // count what it would have been, or a nanosecond less.

@@ -10,7 +10,6 @@ use Rattle.std.proofs.Common.{
   ◌*◌,
   ◌≤◌,
   ltb,
-  max,
   List,
   [],
   ◌∷◌,
@@ -28,30 +27,26 @@ use Rattle.std.proofs.Common.{
   Bool,
   if◌then◌else◌,
   All,
-  map,
 }
 use Rattle.std.proofs.lemmas.Bool.{cases_lt, lt-ltb, le-ltb}
-use Rattle.std.proofs.lemmas.List.{get_or_past, length-map}
-use native.Mathlib.Decide.{dec_le}
+use Rattle.std.proofs.lemmas.List.{ext_get_or}
+use Rattle.host_counter.specs.declared.Anchor.{Anchor}
 use Rattle.trace_blocks.specs.declared.deliveries.Deliveries.{Deliveries}
 use Rattle.board_types.specs.declared.access.Access.{Access}
 use Rattle.board_types.specs.declared.parts.BoardParts.{BoardParts}
-use Rattle.board_types.specs.declared.parts.ProcessorParts.{ProcessorParts}
-use Rattle.board_core.specs.Access.{after_access, after_run, after_act, before_look}
-use Rattle.board_core.specs.Apics.{after_look}
-use Rattle.board_core.specs.Tsc.{no_processor, processor_at}
-use Rattle.board_history.specs.Machine.{Machine, machine_of}
-use Rattle.board_history.specs.History.{after_entry, board_after, May, LegalFrom, IsLegal, entries_of}
+use Rattle.board_meters.specs.declared.meters.Meters.{Meters}
+use Rattle.board_meters.specs.Meters.{counted}
+use Rattle.board_meters.specs.Published.{published_by}
+use Rattle.board_core.specs.Refusals.{meters_of}
+use Rattle.board_history.specs.History.{board_after, LegalFrom, IsLegal, entries_of}
 use Rattle.board_history.specs.declared.entry.Entry.{Entry}
 use Rattle.board_history.specs.declared.entry.Entry.TheVariants.{Opened, Board, PageRead, HvRead, Clamp}
-use Rattle.board_history.proofs.Laws.{board_after-snoc, machine-stays}
-use Rattle.board_history.proofs.Pages.{machine_of-access, length-processors}
 use Rattle.trace_records.specs.declared.Call.{Call}
 use Rattle.trace_records.specs.declared.Call.TheVariants.{Act}
 use Rattle.trace_blocks.specs.declared.records.Record.{Record}
 use Rattle.race_phase.specs.Calls.{IsFitting, records_of, Shown}
 use Rattle.race_phase.specs.Order.{after_call, after_record, after_records}
-use Rattle.race_phase.specs.private.Ran.{AreAlike, PhaseTold}
+use Rattle.race_phase.specs.private.Ran.{PhaseTold}
 use Rattle.race_phase.proofs.Counts.{
   weigh,
   of_entry,
@@ -67,15 +62,15 @@ use Rattle.race_phase.proofs.Counts.{
   raises_wall,
   raises_hv,
   raised,
-  places-stay,
+  length-raised,
+  meters_after,
+  metered,
+  meters_of-entry,
   part,
   part_whole,
 }
 use Rattle.race_phase.proofs.Settle.{rpart, rpart_whole, Exact, exact, exact_all}
-use Rattle.race_phase.proofs.Taken.{IsSound, filed}
-use Rattle.race_phase.specs.Tallies.{TallyParts, IsTally}
-use Rattle.race_phase.specs.private.Tallied.{tally_of}
-use Rattle.std.proofs.Math.ListN.{get_or-map}
+use Rattle.race_phase.proofs.Taken.{filed}
 
 -- the entries weigh what the records weigh
 shown_exact : (s : BoardParts) (ds : Deliveries) (w : Entry → ℕ) (v : Record → ℕ) (rs : List Record) (h : List Entry) (n k : ℕ) (out : List ℕ)
@@ -86,113 +81,103 @@ shown_exact s ds w v rs h n (suc k) out e shown =
     let first = exact_all s ds w v n (records_of n rs) shown.0 (entries_of n h) e shown.3 in
     let rest = shown_exact s ds w v rs h (suc n) k shown.1 e shown.5 in omega arith
 
--- the greatest count of accesses
-pub host_after : (b : BoardParts) (cpu h : ℕ) (a : Access) → (after_access b cpu h a).host ≡ max b.host h
-unfolding after_access after_act after_look before_look after_run
-host_after b cpu h a = refl
-
 -- accesses past a count
 abbrev pub past : ℕ → ℕ → ℕ → Access → ℕ
 past x cpu h a = if ltb x h then 1 else 0
 
 -- the host's count is no more than x exactly where no access is past x
-record Reaches (x : ℕ) (b c : BoardParts) (w : ℕ) : Type 0 where
-  low : c.host ≤ x → (b.host ≤ x) × (w ≡ 0)
-  high : b.host ≤ x → w ≡ 0 → c.host ≤ x
+record Reaches (x : ℕ) (m o : Meters) (w : ℕ) : Type 0 where
+  low : o.host ≤ x → (m.host ≤ x) × (w ≡ 0)
+  high : m.host ≤ x → w ≡ 0 → o.host ≤ x
 
-reaches_none : (x : ℕ) (b : BoardParts) → Reaches x b b 0
-reaches_none x b = record { low = λ l. (l, refl); high = λ l z. l }
+reaches_none : (x : ℕ) (m : Meters) → Reaches x m m 0
+reaches_none x m = record { low = λ l. (l, refl); high = λ l z. l }
 
-reaches_access : (x : ℕ) (b : BoardParts) (cpu h : ℕ) (a : Access) → Reaches x b (after_access b cpu h a) (past x cpu h a)
-reaches_access x b cpu h a = elim (cases_lt x h) [
+reaches_access : (x : ℕ) (m : Meters) (cpu h : ℕ) (a : Access) → Reaches x m (counted cpu h a m) (past x cpu h a)
+reaches_access x m cpu h a = elim (cases_lt x h) [
   | inl more ↦
       let one : past x cpu h a ≡ 1 = ap (λ (t : Bool). if t then 1 else 0) (lt-ltb x h more) in
-      let host = host_after b cpu h a in
       record { low = λ l. absurd (omega arith); high = λ l z. absurd (omega arith) }
   | inr less ↦
       let none : past x cpu h a ≡ 0 = ap (λ (t : Bool). if t then 1 else 0) (le-ltb x h less) in
-      let host = host_after b cpu h a in
       record { low = λ l. ((omega arith), none); high = λ l z. omega arith }
 ]
 
-reaches_more : (x : ℕ) (b c d : BoardParts) (v w : ℕ) → Reaches x b c v → Reaches x c d w → Reaches x b d (v + w)
-reaches_more x b c d v w r q = record {
-  low = λ l. (let m = q.low l in let n = r.low m.0 in (n.0, (let i = m.1 in let j = n.1 in omega arith)));
+reaches_more : (x : ℕ) (m o p : Meters) (v w : ℕ) → Reaches x m o v → Reaches x o p w → Reaches x m p (v + w)
+reaches_more x m o p v w r q = record {
+  low = λ l. (let k = q.low l in let n = r.low k.0 in (n.0, (let i = k.1 in let j = n.1 in omega arith)));
   high = λ l z. q.high (r.high l (omega arith)) (omega arith);
 }
 
-reaches_call : (x : ℕ) (b : BoardParts) (cpu h : ℕ) (call : Call) → Reaches x b (after_call b cpu h call) (of_call (past x) cpu h call)
-reaches_call x b cpu h (Act a) = reaches_access x b cpu h a
-reaches_call x b cpu h _ = reaches_none x b
+reaches_call : (x : ℕ) (m : Meters) (cpu h : ℕ) (call : Call) → Reaches x m (after_call m cpu h call) (of_call (past x) cpu h call)
+reaches_call x m cpu h (Act a) = reaches_access x m cpu h a
+reaches_call x m cpu h _ = reaches_none x m
 
-reaches_records : (x : ℕ) (b : BoardParts) (rs : List Record) → Reaches x b (after_records b rs) (weigh (of_record (past x)) rs)
-reaches_records x b [] = reaches_none x b
-reaches_records x b (r ∷ rs) =
-    reaches_more x b (after_record b r) (after_records (after_record b r) rs) (of_record (past x) r) (weigh (of_record (past x)) rs)
-    (reaches_call x b r.cpu r.h r.call) (reaches_records x (after_record b r) rs)
+reaches_records : (x : ℕ) (m : Meters) (rs : List Record) → Reaches x m (after_records m rs) (weigh (of_record (past x)) rs)
+reaches_records x m [] = reaches_none x m
+reaches_records x m (r ∷ rs) =
+    reaches_more x m (after_record m r) (after_records (after_record m r) rs) (of_record (past x) r) (weigh (of_record (past x)) rs)
+    (reaches_call x m r.cpu r.h r.call) (reaches_records x (after_record m r) rs)
 
-reaches_entry : (x : ℕ) (before : List Entry) (e : Entry) → May before e
-    → Reaches x (board_after before) (after_entry (board_after before) e) (of_entry (past x) e)
-reaches_entry x before (Opened s) may = absurd may
-reaches_entry x before (Board pass cpu h access reply) may = reaches_access x (board_after before) cpu h access
-reaches_entry x before (PageRead pass cpu h page locked) may = reaches_none x (board_after before)
-reaches_entry x before (HvRead pass h page locked) may = reaches_none x (board_after before)
-reaches_entry x before (Clamp pass cpu reading clock) may = record { low = λ l. (l, refl); high = λ l z. l }
+reaches_entry : (x : ℕ) (m : Meters) (e : Entry) → Reaches x m (metered e m) (of_entry (past x) e)
+reaches_entry x m (Board pass cpu h access reply) = reaches_access x m cpu h access
+reaches_entry x m (Opened s) = reaches_none x m
+reaches_entry x m (PageRead pass cpu h page locked) = reaches_none x m
+reaches_entry x m (HvRead pass h page locked) = reaches_none x m
+reaches_entry x m (Clamp pass cpu reading clock) = reaches_none x m
 
 reaches_entries : (x : ℕ) (before xs : List Entry) → LegalFrom before xs
-    → Reaches x (board_after before) (board_after (before ++ xs)) (weigh (of_entry (past x)) xs)
-reaches_entries x before [] l = subst (λ (h : List Entry). Reaches x (board_after before) (board_after h) 0) (sym (append-nil before))
-    (reaches_none x (board_after before))
+    → Reaches x (meters_after before) (meters_after (before ++ xs)) (weigh (of_entry (past x)) xs)
+reaches_entries x before [] l = subst (λ (h : List Entry). Reaches x (meters_after before) (meters_after h) 0) (sym (append-nil before))
+    (reaches_none x (meters_after before))
 reaches_entries x before (e ∷ es) l =
-    let first : Reaches x (board_after before) (board_after (before ++ e ∷ [])) (of_entry (past x) e) =
-    subst (λ (b : BoardParts). Reaches x (board_after before) b (of_entry (past x) e)) (sym (board_after-snoc before e)) (reaches_entry x before e l.0) in
-    let rest : Reaches x (board_after (before ++ e ∷ [])) (board_after (before ++ e ∷ es)) (weigh (of_entry (past x)) es) =
-    subst (λ (h : List Entry). Reaches x (board_after (before ++ e ∷ [])) (board_after h) (weigh (of_entry (past x)) es)) (append_assoc before (e ∷ []) es)
+    let first : Reaches x (meters_after before) (meters_after (before ++ e ∷ [])) (of_entry (past x) e) =
+    subst (λ (m : Meters). Reaches x (meters_after before) m (of_entry (past x) e)) (sym (meters_of-entry before e l.0)) (reaches_entry x (meters_after before) e) in
+    let rest : Reaches x (meters_after (before ++ e ∷ [])) (meters_after (before ++ e ∷ es)) (weigh (of_entry (past x)) es) =
+    subst (λ (h : List Entry). Reaches x (meters_after (before ++ e ∷ [])) (meters_after h) (weigh (of_entry (past x)) es)) (append_assoc before (e ∷ []) es)
     (reaches_entries x (before ++ e ∷ []) es l.1) in
-    reaches_more x (board_after before) (board_after (before ++ e ∷ [])) (board_after (before ++ e ∷ es)) (of_entry (past x) e)
+    reaches_more x (meters_after before) (meters_after (before ++ e ∷ [])) (meters_after (before ++ e ∷ es)) (of_entry (past x) e)
     (weigh (of_entry (past x)) es) first rest
 
--- what file order keeps
-machine_records : (b : BoardParts) (rs : List Record) → machine_of (after_records b rs) ≡ machine_of b
-machine_records b [] = refl
-machine_records b (r ∷ rs) = machine_records (after_record b r) rs ∙ machine_call r.cpu r.h r.call
-  where
-    machine_call : (cpu h : ℕ) (call : Call) → machine_of (after_call b cpu h call) ≡ machine_of b
-    machine_call cpu h (Act a) = machine_of-access b cpu h a
-    machine_call cpu h _ = refl
+-- what no access changes
+abbrev fixed_of : Meters → ℕ × ℕ × Anchor × ℕ
+fixed_of m = (m.format, m.cpus, m.anchor, length m.versions)
 
-places_records : (b : BoardParts) (rs : List Record) → length (after_records b rs).processors ≡ length b.processors
-places_records b [] = refl
-places_records b (r ∷ rs) = places_records (after_record b r) rs ∙ places_call r.cpu r.h r.call
-  where
-    places_call : (cpu h : ℕ) (call : Call) → length (after_call b cpu h call).processors ≡ length b.processors
-    places_call cpu h (Act a) = length-processors b cpu h a
-    places_call cpu h _ = refl
+fixed_access : (m : Meters) (cpu h : ℕ) (a : Access) → fixed_of (counted cpu h a m) ≡ fixed_of m
+fixed_access m cpu h a = λ i. (m.format, m.cpus, m.anchor, length-raised (published_by cpu a) m.versions i)
 
--- counts of a board
-pub tally_is : (b : BoardParts) (versions : List ℕ) → ((k : ℕ) → get_or versions k 0 ≡ (processor_at b k).version)
-    → b.cpus ≤ length b.processors → b.cpus ≤ length versions → IsTally b (tally_of b versions)
-tally_is b versions same places own = record {
-  format = refl;
-  cpus = refl;
-  anchor = refl;
-  host = refl;
-  accesses = refl;
-  wall_version = refl;
-  hv_version = refl;
-  versions = same;
-  places = places;
-  own = own;
-}
+fixed_call : (m : Meters) (cpu h : ℕ) (call : Call) → fixed_of (after_call m cpu h call) ≡ fixed_of m
+fixed_call m cpu h (Act a) = fixed_access m cpu h a
+fixed_call m cpu h _ = refl
 
--- the workers leave the counts that file order leaves
-module _ (s : BoardParts) (ds : Deliveries) (rs : List Record) (mid : BoardParts) (out : List ℕ) (sound : IsSound s)
+fixed_records : (m : Meters) (rs : List Record) → fixed_of (after_records m rs) ≡ fixed_of m
+fixed_records m [] = refl
+fixed_records m (r ∷ rs) = fixed_records (after_record m r) rs ∙ fixed_call m r.cpu r.h r.call
+
+fixed_entry : (m : Meters) (e : Entry) → fixed_of (metered e m) ≡ fixed_of m
+fixed_entry m (Board pass cpu h access reply) = fixed_access m cpu h access
+fixed_entry m _ = refl
+
+fixed_entries : (before xs : List Entry) → LegalFrom before xs → fixed_of (meters_after (before ++ xs)) ≡ fixed_of (meters_after before)
+fixed_entries before [] l = ap (λ (h : List Entry). fixed_of (meters_after h)) (append-nil before)
+fixed_entries before (e ∷ es) l =
+    sym (ap (λ (h : List Entry). fixed_of (meters_after h)) (append_assoc before (e ∷ []) es))
+    ∙ (fixed_entries (before ++ e ∷ []) es l.1 ∙ (ap fixed_of (meters_of-entry before e l.0) ∙ fixed_entry (meters_after before) e))
+
+-- the workers leave the meters that file order leaves
+module _ (s : BoardParts) (ds : Deliveries) (rs : List Record) (mid : BoardParts) (out : List ℕ)
     (fit : All (IsFitting s.cpus s.format) rs) (t : PhaseTold s ds rs mid out) where
+  abbrev first : Meters
+  first = meters_of s
+
+  abbrev filed_to : Meters
+  filed_to = after_records first rs
+
   legal : LegalFrom (Opened s ∷ []) t.opens.0
   legal = subst IsLegal t.opens.1 t.legal
 
-  now : mid ≡ board_after (Opened s ∷ t.opens.0)
-  now = t.leaves ∙ ap board_after t.opens.1
+  now : meters_of mid ≡ meters_after (Opened s ∷ t.opens.0)
+  now = ap meters_of (t.leaves ∙ ap board_after t.opens.1)
 
   total : (f : ℕ → ℕ → Access → ℕ) → weigh (of_entry f) t.opens.0 ≡ weigh (of_record f) rs
   total f =
@@ -201,73 +186,51 @@ module _ (s : BoardParts) (ds : Deliveries) (rs : List Record) (mid : BoardParts
       let c = rpart_whole (of_record f) s.cpus s.format rs fit in
       let e = ap (weigh (of_entry f)) t.opens.1 in omega arith
 
-  same_number : (n : ℕ) (q : BoardParts → ℕ) (f : ℕ → ℕ → Access → ℕ) (k most : ℕ) → Raises n q f k most → n ≤ length s.processors
-      → q (after_records s rs) ≡ q mid
+  same_number : (n : ℕ) (q : Meters → ℕ) (f : ℕ → ℕ → Access → ℕ) (k most : ℕ) → Raises n q f k most → n ≤ length first.versions
+      → q filed_to ≡ q (meters_of mid)
   same_number n q f k most r small =
-      let a = filed n q f k most r s rs small in
+      let a = filed n q f k most r first rs small in
       let b = raised n q f k most r (Opened s ∷ []) t.opens.0 legal small in
       let c = ap q now in
-      let d = ap (λ (w : ℕ). q s + k * w) (total f) in omega arith
+      let d = ap (λ (w : ℕ). q first + k * w) (total f) in omega arith
 
-  machine_mid : machine_of mid ≡ machine_of s
-  machine_mid = ap machine_of now ∙ machine-stays (Opened s ∷ []) t.opens.0 legal
+  fixed : fixed_of filed_to ≡ fixed_of (meters_of mid)
+  fixed = fixed_records first rs ∙ sym (ap fixed_of now ∙ fixed_entries (Opened s ∷ []) t.opens.0 legal)
 
-  places_mid : length mid.processors ≡ length s.processors
-  places_mid = ap (λ (b : BoardParts). length b.processors) now ∙ places-stay (Opened s ∷ []) t.opens.0 legal
+  places : length filed_to.versions ≡ length first.versions
+  places = λ i. (fixed_records first rs i).3
 
-  same_page : (k : ℕ) → (processor_at (after_records s rs) k).version ≡ (processor_at mid k).version
-  same_page k = elim (dec_le (suc k) (length s.processors)) [
-    | yes there ↦ same_number (suc k) (λ b. (processor_at b k).version) (publishes k) 2 _ (raises_page k) there
-    | no gone ↦
-        let a : processor_at (after_records s rs) k ≡ no_processor =
-        get_or_past (after_records s rs).processors k no_processor (let p = places_records s rs in omega arith) in
-        let b : processor_at mid k ≡ no_processor = get_or_past mid.processors k no_processor (let p = places_mid in omega arith) in
-        ap (λ (p : ProcessorParts). p.version) (a ∙ sym b)
-  ]
+  same_pages : filed_to.versions ≡ (meters_of mid).versions
+  same_pages = ext_get_or 0 filed_to.versions (meters_of mid).versions (λ i. (fixed i).3)
+      (λ k less. same_number (suc k) (λ m. get_or m.versions k 0) (publishes k) 2 _ (raises_page k) (let p = places in omega arith))
 
   -- one host's count is no more than the other, both ways
-  host_le : (after_records s rs).host ≤ mid.host
+  reached : (x : ℕ) → Reaches x first (meters_of mid) (weigh (of_entry (past x)) t.opens.0)
+  reached x = subst (λ (m : Meters). Reaches x first m (weigh (of_entry (past x)) t.opens.0)) (sym now) (reaches_entries x (Opened s ∷ []) t.opens.0 legal)
+
+  host_le : filed_to.host ≤ (meters_of mid).host
   host_le =
-      let x = mid.host in
-      let a = reaches_records x s rs in
-      let b : Reaches x s mid (weigh (of_entry (past x)) t.opens.0) =
-      subst (λ (c : BoardParts). Reaches x s c (weigh (of_entry (past x)) t.opens.0)) (sym now) (reaches_entries x (Opened s ∷ []) t.opens.0 legal) in
-      let l = b.low (omega arith) in
-      a.high l.0 (sym (total (past x)) ∙ l.1)
+      let x = (meters_of mid).host in
+      let l = (reached x).low (omega arith) in
+      (reaches_records x first rs).high l.0 (sym (total (past x)) ∙ l.1)
 
-  host_ge : mid.host ≤ (after_records s rs).host
+  host_ge : (meters_of mid).host ≤ filed_to.host
   host_ge =
-      let x = (after_records s rs).host in
-      let a = reaches_records x s rs in
-      let b : Reaches x s mid (weigh (of_entry (past x)) t.opens.0) =
-      subst (λ (c : BoardParts). Reaches x s c (weigh (of_entry (past x)) t.opens.0)) (sym now) (reaches_entries x (Opened s ∷ []) t.opens.0 legal) in
-      let l = a.low (omega arith) in
-      b.high l.0 (total (past x) ∙ l.1)
+      let x = filed_to.host in
+      let l = (reaches_records x first rs).low (omega arith) in
+      (reached x).high l.0 (total (past x) ∙ l.1)
 
-  pub phase_alike : AreAlike (after_records s rs) mid
-  phase_alike =
-      let b : BoardParts = after_records s rs in
-      let machine = machine_records s rs ∙ sym machine_mid in
-      let host : b.host ≡ mid.host = (let l = host_le in let g = host_ge in omega arith) in
-      let own : mid.cpus ≤ length mid.processors =
-      (let p = places_mid in let m = ap (λ (x : Machine). x.cpus) machine_mid in let q = sound.places in omega arith) in
-      let version : ProcessorParts → ℕ = λ p. p.version in
-      let versions : List ℕ = map version mid.processors in
-      let t : TallyParts = tally_of mid versions in
-      let is : IsTally mid t =
-      tally_is mid versions (λ k. get_or-map version mid.processors k no_processor) own (let l = length-map mid.processors version in omega arith) in (
-        t,
-        record {
-          format = ap (λ (x : Machine). x.format) (sym machine);
-          cpus = ap (λ (x : Machine). x.cpus) (sym machine);
-          anchor = ap (λ (x : Machine). x.anchor) (sym machine);
-          host = sym host;
-          accesses = sym (same_number 0 (λ c. c.accesses) any_access 1 _ raises_accesses (omega arith));
-          wall_version = sym (same_number 0 (λ c. c.wall_version) publishes_words 2 _ raises_wall (omega arith));
-          hv_version = sym (same_number 0 (λ c. c.hv.version) publishes_reference 2 _ raises_hv (omega arith));
-          versions = λ k. is.versions k ∙ sym (same_page k);
-          places = (let p = places_records s rs in let m = ap (λ (x : Machine). x.cpus) (machine_records s rs) in let q = sound.places in omega arith);
-          own = is.own;
-        },
-        is,
-      )
+  same_host : filed_to.host ≡ (meters_of mid).host
+  same_host = let l = host_le in let g = host_ge in omega arith
+
+  pub phase_alike : filed_to ≡ meters_of mid
+  phase_alike = λ i. record {
+    format = (fixed i).0;
+    cpus = (fixed i).1;
+    anchor = (fixed i).2;
+    host = same_host i;
+    accesses = same_number 0 (λ m. m.accesses) any_access 1 _ raises_accesses (omega arith) i;
+    wall_version = same_number 0 (λ m. m.wall_version) publishes_words 2 _ raises_wall (omega arith) i;
+    hv_version = same_number 0 (λ m. m.hv_version) publishes_reference 2 _ raises_hv (omega arith) i;
+    versions = same_pages i;
+  }

@@ -6,23 +6,26 @@ use Rattle.board_types.specs.declared.reply.Reply.{Reply}
 use Rattle.board_history.specs.declared.entry.Entry.{Entry}
 use Rattle.board_history.specs.declared.entry.Entry.TheVariants.{Board, PageRead, HvRead, Clamp}
 use Rattle.hv_page.specs.declared.page.HvPage.{HvPage}
-use Rattle.hv_page.specs.declared.page.HvReply.{HvReply}
+use Rattle.hv_page.specs.Words.{of_page}
 use Rattle.clock_table.specs.declared.view.Miss.{Miss}
 use Rattle.pvclock_page.specs.declared.page.Page.{Page}
-use Rattle.pvclock_page.specs.declared.page.PageReply.{PageReply}
-use Rattle.pvclock_page.specs.declared.page.ClockReply.{ClockReply}
 use Rattle.pvclock_page.specs.declared.page.ClockReply.TheVariants.{Off, On}
 use Rattle.shared_board.specs.declared.known.PassKnown.{PassKnown}
 use Rattle.shared_board.specs.Passes.{miss, mine, Answered, Tried}
-use Rattle.shared_board.specs.Hv.{HasReadHv}
-use Rattle.shared_board.specs.Pages.{clock_entries, IsClockOf, HasReadPage, HasReadClock}
+use Rattle.shared_board.specs.declared.read.Read.{Read}
+use Rattle.shared_board.specs.declared.read.Read.TheVariants.{Page as OfPage, Clock as OfClock, Hv as OfHv}
+use Rattle.shared_board.specs.declared.read.ReadReply.{ReadReply}
+use Rattle.shared_board.specs.declared.read.ReadReply.TheVariants.{Page as PageOf, Clock as ClockOf, Hv as HvOf}
+use Rattle.shared_board.specs.Reads.{place_in, MayRead, page_entry, clamp_entries, IsAnswerBy, HasRead}
 use Rattle.shared_board.proofs.Made.{made_of}
-use Rattle.trace_blocks.specs.declared.records.Answer.TheVariants.{Acted, PageIs, ClockIs, HvIs}
+use Rattle.trace_blocks.specs.declared.records.Answer.TheVariants.{Acted}
 use Rattle.trace_records.specs.declared.Call.{Call}
-use Rattle.trace_records.specs.declared.Call.TheVariants.{Act, ReadPage, ReadClock, ReadHv}
+use Rattle.trace_records.specs.declared.Call.TheVariants.{Act}
+use Rattle.trace_records.specs.Calls.{IsFittingCall}
 use Rattle.trace_blocks.specs.declared.records.Record.{Record}
 use Rattle.race_phase.specs.Calls.{CallMade, IsTryOf, AllTried}
-use Rattle.race_phase.specs.private.Workers.{IsMade}
+use Rattle.race_phase.specs.private.Told.{reading, answer_of}
+use Rattle.race_phase.specs.private.Workers.{IsMade, IsUnread, CallTrouble}
 
 -- a read that was tried once has one miss, and is under the lock, or none
 abbrev HasMisses : ℕ → List Entry → PassKnown → PassKnown → Type 0
@@ -38,26 +41,49 @@ the_miss k p q t = record {
   least = t.3;
 }
 
-read_tried : (c n k h : ℕ) (page : Page) (locked : Bool) (es : List Entry) (p q : PassKnown) → Tried k locked p q
+page_tried : (c n k h : ℕ) (page : Page) (locked : Bool) (es : List Entry) (p q : PassKnown) → Tried k locked p q
     → AllTried c p.number p.seen (mine p ++ PageRead n k h page locked ∷ []) es []
     → HasMisses c (PageRead n k h page locked ∷ es) p q
-read_tried c n k h page true es p q t none =
+page_tried c n k h page true es p q t none =
     let m : Miss = miss k t.0 t.1 in (m ∷ [], (m ∷ [], [], refl, (m, refl, the_miss k p q t), none), t.2)
-read_tried c n k h page false es p q t none = ([], ([], [], refl, refl, none), t ∙ sym (append-nil p.misses))
+page_tried c n k h page false es p q t none = ([], ([], [], refl, refl, none), t ∙ sym (append-nil p.misses))
 
 hv_tried : (c n h : ℕ) (page : HvPage) (locked : Bool) (p q : PassKnown) → Tried c locked p q → HasMisses c (HvRead n h page locked ∷ []) p q
 hv_tried c n h page true p q t = let m : Miss = miss c t.0 t.1 in (m ∷ [], (m ∷ [], [], refl, (m, refl, the_miss c p q t), refl), t.2)
 hv_tried c n h page false p q t = ([], ([], [], refl, refl, refl), t ∙ sym (append-nil p.misses))
 
-clock_tried : (c n k h : ℕ) (page : Page) (locked : Bool) (reply : ClockReply) (p q : PassKnown) → Tried k locked p q
-    → HasMisses c (clock_entries n k h page locked reply) p q
-clock_tried c n k h page locked Off p q t = read_tried c n k h page locked [] p q t refl
-clock_tried c n k h page locked (On reading clock) p q t = read_tried c n k h page locked (Clamp n k reading clock ∷ []) p q t ([], [], refl, refl, refl)
+-- the misses of a read
+read_tried : (s : BoardParts) (what : Read) (n h : ℕ) (page : Page) (locked : Bool) (reply : ReadReply) (o p q : PassKnown)
+    → IsAnswerBy s what h page reply o → Tried (place_in s.cpus what) locked p q
+    → HasMisses s.cpus (page_entry n what h page locked ∷ clamp_entries n what reply) p q
+read_tried s (OfPage k) n h page locked (PageOf x) o p q a t = page_tried s.cpus n k h page locked [] p q t refl
+read_tried s (OfClock k) n h page locked (ClockOf Off) o p q a t = page_tried s.cpus n k h page locked [] p q t refl
+read_tried s (OfClock k) n h page locked (ClockOf (On reading clock)) o p q a t =
+    page_tried s.cpus n k h page locked (Clamp n k reading clock ∷ []) p q t ([], [], refl, refl, refl)
+read_tried s OfHv n h page locked (HvOf x) o p q a t = hv_tried s.cpus n h (of_page page) locked p q t
+read_tried s _ n h page locked _ o p q a t = absurd a
 
-clock_call : (s : BoardParts) (n cpu h k : ℕ) (page : Page) (locked : Bool) (reply : ClockReply) (p : PassKnown) → IsClockOf s h page reply p
-    → CallMade s n cpu h (ReadClock k) (ClockIs reply) (clock_entries n k h page locked reply)
-clock_call s n cpu h k page locked Off p a = (page, locked, a, refl)
-clock_call s n cpu h k page locked (On reading clock) p a = (page, locked, a.0, a.1, refl)
+-- the call of a read
+read_call : (s : BoardParts) (what : Read) (n cpu h : ℕ) (page : Page) (locked : Bool) (reply : ReadReply) (p : PassKnown)
+    → IsAnswerBy s what h page reply p
+    → CallMade s n cpu h (reading what) (answer_of reply) (page_entry n what h page locked ∷ clamp_entries n what reply)
+read_call s (OfPage k) n cpu h page locked (PageOf x) p a = (page, locked, a, refl)
+read_call s (OfClock k) n cpu h page locked (ClockOf Off) p a = (page, locked, a, refl)
+read_call s (OfClock k) n cpu h page locked (ClockOf (On reading clock)) p a = (page, locked, a.0, a.1, refl)
+read_call s OfHv n cpu h page locked (HvOf x) p a = (of_page page, locked, a, refl)
+read_call s _ n cpu h page locked _ p a = absurd a
+
+-- a board that a record fits has what it reads
+pub may_read : (s : BoardParts) (what : Read) → IsFittingCall s.cpus s.format (reading what) → MayRead s what
+may_read s (OfPage k) fits = fits
+may_read s (OfClock k) fits = fits
+may_read s OfHv fits = fits
+
+-- a read's own trouble
+pub read_trouble : (s : BoardParts) (what : Read) (cpu h : ℕ) (seen : List Entry) → IsUnread s h seen → CallTrouble s cpu h (reading what) seen
+read_trouble s (OfPage k) cpu h seen u = u
+read_trouble s (OfClock k) cpu h seen u = u
+read_trouble s OfHv cpu h seen u = u
 
 module _ (s : BoardParts) (r : Record) (p q : PassKnown) where
   pub access_made : (x : Access) (reply : Reply) → r.call ≡ Act x → Answered p q (Board p.number r.cpu r.h x reply) → IsMade s r (Acted reply) p q
@@ -71,38 +97,15 @@ module _ (s : BoardParts) (r : Record) (p q : PassKnown) where
         a.misses ∙ sym (append-nil p.misses),
       )
 
-  pub page_made : (k : ℕ) (reply : PageReply) → r.call ≡ ReadPage k → HasReadPage s k r.h reply p q → IsMade s r (PageIs reply) p q
-  page_made k reply is a =
-      let es : List Entry = PageRead p.number k r.h a.read.page a.locked ∷ [] in
-      let m = read_tried s.cpus p.number k r.h a.read.page a.locked [] p q a.tried refl in (
+  pub read_made : (what : Read) (reply : ReadReply) → r.call ≡ reading what → HasRead s what r.h reply p q → IsMade s r (answer_of reply) p q
+  read_made what reply is a =
+      let w = a.read in
+      let es : List Entry = page_entry p.number what r.h w.page a.locked ∷ clamp_entries p.number what reply in
+      let m = read_tried s what p.number r.h w.page a.locked reply p p q w.answer a.tried in (
         es,
-        subst (λ (call : Call). CallMade s p.number r.cpu r.h call (PageIs reply) es) (sym is) (a.read.page, a.locked, a.read.answer, refl),
-        a.read.made,
-        m.0,
-        m.1,
-        m.2,
-      )
-
-  pub clock_made : (k : ℕ) (reply : ClockReply) → r.call ≡ ReadClock k → HasReadClock s k r.h reply p q → IsMade s r (ClockIs reply) p q
-  clock_made k reply is a =
-      let es : List Entry = clock_entries p.number k r.h a.read.page a.locked reply in
-      let m = clock_tried s.cpus p.number k r.h a.read.page a.locked reply p q a.tried in (
-        es,
-        subst (λ (call : Call). CallMade s p.number r.cpu r.h call (ClockIs reply) es) (sym is)
-            (clock_call s p.number r.cpu r.h k a.read.page a.locked reply p a.read.answer),
-        a.read.made,
-        m.0,
-        m.1,
-        m.2,
-      )
-
-  pub hv_made : (reply : HvReply) → r.call ≡ ReadHv → HasReadHv s r.h reply p q → IsMade s r (HvIs reply) p q
-  hv_made reply is a =
-      let es : List Entry = HvRead p.number r.h a.read.page a.locked ∷ [] in
-      let m = hv_tried s.cpus p.number r.h a.read.page a.locked p q a.tried in (
-        es,
-        subst (λ (call : Call). CallMade s p.number r.cpu r.h call (HvIs reply) es) (sym is) (a.read.page, a.locked, a.read.answer, refl),
-        a.read.made,
+        subst (λ (call : Call). CallMade s p.number r.cpu r.h call (answer_of reply) es) (sym is)
+            (read_call s what p.number r.cpu r.h w.page a.locked reply p w.answer),
+        w.made,
         m.0,
         m.1,
         m.2,

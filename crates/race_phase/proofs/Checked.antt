@@ -1,23 +1,23 @@
 -- Records that aren't refused, one more.
 use Rattle.std.proofs.Common.{◌≡◌, List, [], ◌∷◌, ◌++◌, Option, None, refl, ap, ◌∙◌}
 use Rattle.std.specs.Option.{option_or}
-use Rattle.board_types.specs.declared.parts.BoardParts.{BoardParts}
-use Rattle.trace_blocks.specs.declared.faults.Fault.{Fault}
+use Rattle.board_meters.specs.declared.meters.Meters.{Meters}
+use Rattle.reply_text.specs.declared.ends.Refused.{Refused}
 use Rattle.trace_blocks.specs.declared.records.Record.{Record}
-use Rattle.race_phase.specs.Order.{record_fault, after_record, after_records, records_fault}
+use Rattle.race_phase.specs.Order.{record_refusal, after_record, after_records, records_refusal}
 use Rattle.race_phase.proofs.Taken.{or_none}
 
-pub or_both : (a o : Option Fault) → a ≡ None → o ≡ None → option_or a o ≡ None
-or_both a o e f = ap (λ (x : Option Fault). option_or x o) e ∙ f
+pub or_both : (a o : Option Refused) → a ≡ None → o ≡ None → option_or a o ≡ None
+or_both a o e f = ap (λ (x : Option Refused). option_or x o) e ∙ f
 
 -- records
-pub after_records-snoc : (b : BoardParts) (rs : List Record) (r : Record) → after_records b (rs ++ r ∷ []) ≡ after_record (after_records b rs) r
-after_records-snoc b [] r = refl
-after_records-snoc b (x ∷ xs) r = after_records-snoc (after_record b x) xs r
+pub after_records-snoc : (m : Meters) (rs : List Record) (r : Record) → after_records m (rs ++ r ∷ []) ≡ after_record (after_records m rs) r
+after_records-snoc m [] r = refl
+after_records-snoc m (x ∷ xs) r = after_records-snoc (after_record m x) xs r
 
-pub records_fault-snoc : (b : BoardParts) (rs : List Record) (r : Record) → records_fault b rs ≡ None → record_fault (after_records b rs) r ≡ None
-    → records_fault b (rs ++ r ∷ []) ≡ None
-records_fault-snoc b [] r free last = or_both (record_fault b r) None last refl
-records_fault-snoc b (x ∷ xs) r free last =
-    let p : (record_fault b x ≡ None) × (records_fault (after_record b x) xs ≡ None) = or_none (record_fault b x) (records_fault (after_record b x) xs) free in
-    or_both (record_fault b x) (records_fault (after_record b x) (xs ++ r ∷ [])) p.0 (records_fault-snoc (after_record b x) xs r p.1 last)
+pub records_refusal-snoc : (m : Meters) (rs : List Record) (r : Record) → records_refusal m rs ≡ None → record_refusal (after_records m rs) r ≡ None
+    → records_refusal m (rs ++ r ∷ []) ≡ None
+records_refusal-snoc m [] r free last = or_both (record_refusal m r) None last refl
+records_refusal-snoc m (x ∷ xs) r free last =
+    let p : (record_refusal m x ≡ None) × (records_refusal (after_record m x) xs ≡ None) = or_none (record_refusal m x) (records_refusal (after_record m x) xs) free in
+    or_both (record_refusal m x) (records_refusal (after_record m x) (xs ++ r ∷ [])) p.0 (records_refusal-snoc (after_record m x) xs r p.1 last)

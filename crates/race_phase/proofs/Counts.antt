@@ -18,49 +18,37 @@ use Rattle.std.proofs.Common.{
   sym,
   ap,
   ◌∙◌,
-  subst,
   arith,
   append_assoc,
   append-nil,
   Bool,
   true,
   false,
-  cond,
   Option,
   Some,
   None,
-  IfSome,
   eq-eqb,
   ne_eqb,
   if◌then◌else◌,
 }
 use Rattle.std.proofs.lemmas.Bool.{eqb-true}
 use native.Mathlib.Decide.{ℕ_discrete, dec_le}
+use Rattle.std.proofs.Common.{get_or, length-set}
+use Rattle.std.proofs.lemmas.Grind.{get_or-set_at}
+use Rattle.std.proofs.lemmas.List.{get_or-set_other}
 use Rattle.board_types.specs.declared.access.Access.{Access}
 use Rattle.board_types.specs.declared.parts.BoardParts.{BoardParts}
 use Rattle.board_types.specs.declared.parts.TheConstants.{LAST_VERSION, MOST_ACCESSES}
-use Rattle.board_core.specs.Access.{after_access}
-use Rattle.board_core.specs.Pages.{published_by, with_greatest}
-use Rattle.board_core.specs.Refusals.{refusal_of, raised_version, version_at}
-use Rattle.board_core.specs.Wall.{publishes_wall}
-use Rattle.board_core.specs.Hv.{publishes_hv}
-use Rattle.board_core.proofs.Laws.{
-  after_access-accesses,
-  version-published,
-  processor_at-other,
-  wall_version-after,
-  hv_version-after,
-  taken_accesses,
-  taken_version,
-  taken_page,
-  taken_hv,
-}
-use Rattle.board_core.specs.Tsc.{processor_at}
+use Rattle.board_meters.specs.declared.meters.Meters.{Meters}
+use Rattle.board_meters.specs.Published.{published_by, publishes_wall, publishes_hv}
+use Rattle.board_meters.specs.Meters.{refusal_in, raised_at, counted}
+use Rattle.board_meters.proofs.Taken.{taken_accesses, taken_version, taken_wall, taken_hv, raised_page}
+use Rattle.board_core.specs.Refusals.{meters_of}
+use Rattle.board_core.proofs.Laws.{meters_of-access, meters_of-greatest}
 use Rattle.board_history.specs.History.{after_entry, board_after, May, LegalFrom, is_of, entries_of}
 use Rattle.board_history.specs.declared.entry.Entry.{Entry}
 use Rattle.board_history.specs.declared.entry.Entry.TheVariants.{Opened, Board, PageRead, HvRead, Clamp}
 use Rattle.board_history.proofs.Laws.{board_after-snoc}
-use Rattle.board_history.proofs.Pages.{length-processors, processor_at-none, publishes_wall-page}
 use Rattle.shared_board.specs.Faults.{page_reads}
 use Rattle.trace_records.specs.declared.Call.{Call}
 use Rattle.trace_records.specs.declared.Call.TheVariants.{Act}
@@ -112,22 +100,20 @@ reads_weigh (PageRead pass cpu h page locked ∷ es) = let i = reads_weigh es in
 reads_weigh (HvRead pass h page locked ∷ es) = let i = reads_weigh es in omega arith
 reads_weigh (Clamp pass cpu reading clock ∷ es) = let i = reads_weigh es in omega arith
 
--- a number of a board with n processors that each access raises by k times its weight, and that no access which is taken
+-- a number of meters with n pages that each access raises by k times its weight, and that no access which is taken
 -- raises past the most
-pub record Raises (n : ℕ) (q : BoardParts → ℕ) (f : ℕ → ℕ → Access → ℕ) (k most : ℕ) : Type 0 where
-  pub access : (b : BoardParts) (cpu h : ℕ) (a : Access) → n ≤ length b.processors → q (after_access b cpu h a) ≡ q b + k * f cpu h a
-  pub clamp : (b : BoardParts) (g : ℕ) → q (with_greatest b g) ≡ q b
-  pub room : (b : BoardParts) (cpu h : ℕ) (a : Access) → refusal_of b cpu h a ≡ None → q b ≤ most → q b + k * f cpu h a ≤ most
+pub record Raises (n : ℕ) (q : Meters → ℕ) (f : ℕ → ℕ → Access → ℕ) (k most : ℕ) : Type 0 where
+  pub access : (m : Meters) (cpu h : ℕ) (a : Access) → n ≤ length m.versions → q (counted cpu h a m) ≡ q m + k * f cpu h a
+  pub room : (m : Meters) (cpu h : ℕ) (a : Access) → refusal_in m cpu h a ≡ None → q m ≤ most → q m + k * f cpu h a ≤ most
 
 -- the number of accesses
 abbrev pub any_access : ℕ → ℕ → Access → ℕ
 any_access cpu h a = 1
 
-pub raises_accesses : Raises 0 (λ b. b.accesses) any_access 1 MOST_ACCESSES
+pub raises_accesses : Raises 0 (λ m. m.accesses) any_access 1 MOST_ACCESSES
 raises_accesses = record {
-  access = λ b cpu h a l. after_access-accesses b cpu h a;
-  clamp = λ b g. refl;
-  room = λ b cpu h a taken l. (let few = taken_accesses b cpu h a taken in omega arith);
+  access = λ m cpu h a l. omega arith;
+  room = λ m cpu h a taken l. (let few = taken_accesses m cpu h a taken in omega arith);
 }
 
 -- the version of a page
@@ -138,123 +124,115 @@ is_page c (Some d) = if eqb d c then 1 else 0
 abbrev pub publishes : ℕ → ℕ → ℕ → Access → ℕ
 publishes c cpu h a = is_page c (published_by cpu a)
 
-version_is : (b : BoardParts) (cpu h c : ℕ) (a : Access) → suc c ≤ length b.processors
-    → (processor_at (after_access b cpu h a) c).version ≡ (processor_at b c).version + 2 * publishes c cpu h a
-version_is b cpu h c a l = by_page (published_by cpu a) refl
-  where
-    by_page : (o : Option ℕ) → published_by cpu a ≡ o → (processor_at (after_access b cpu h a) c).version ≡ (processor_at b c).version + 2 * is_page c o
-    by_page None e = let k = ap (λ p. p.version) (processor_at-none b cpu h c a e) in omega arith
-    by_page (Some d) e = elim (ℕ_discrete d c) [
-      | yes same ↦
-          let one : is_page c (Some d) ≡ 1 = ap (λ (t : Bool). if t then 1 else 0) (eq-eqb d c same) in
-          let k = version-published b cpu h c a (e ∙ ap (λ (n : ℕ). Some n) same) (omega arith) in omega arith
-      | no apart ↦
-          let none : is_page c (Some d) ≡ 0 = ap (λ (t : Bool). if t then 1 else 0) (ne_eqb d c apart) in
-          let k = ap (λ p. p.version) (processor_at-other b cpu h d c a e (λ x. apart (sym x))) in omega arith
-    ]
+raised_page_is : (o : Option ℕ) (vs : List ℕ) (c : ℕ) → suc c ≤ length vs → get_or (raised_at o vs) c 0 ≡ get_or vs c 0 + 2 * is_page c o
+raised_page_is None vs c l = omega arith
+raised_page_is (Some d) vs c l = elim (ℕ_discrete c d) [
+  | yes same ↦
+      let one : is_page c (Some d) ≡ 1 = ap (λ (t : Bool). if t then 1 else 0) (eq-eqb d c (sym same)) in
+      let here = get_or-set_at vs d c (get_or vs d 0 + 2) 0 same (omega arith) in
+      let old : get_or vs d 0 ≡ get_or vs c 0 = ap (λ (j : ℕ). get_or vs j 0) (sym same) in omega arith
+  | no apart ↦
+      let none : is_page c (Some d) ≡ 0 = ap (λ (t : Bool). if t then 1 else 0) (ne_eqb d c (λ e. apart (sym e))) in
+      let other = get_or-set_other vs d c (get_or vs d 0 + 2) 0 apart in omega arith
+]
 
-version_room : (b : BoardParts) (cpu h c : ℕ) (a : Access) → refusal_of b cpu h a ≡ None → (processor_at b c).version ≤ LAST_VERSION + 1
-    → (processor_at b c).version + 2 * publishes c cpu h a ≤ LAST_VERSION + 1
-version_room b cpu h c a taken l = by_page (published_by cpu a) refl
+version_room : (m : Meters) (cpu h c : ℕ) (a : Access) → refusal_in m cpu h a ≡ None → get_or m.versions c 0 ≤ LAST_VERSION + 1
+    → get_or m.versions c 0 + 2 * publishes c cpu h a ≤ LAST_VERSION + 1
+version_room m cpu h c a taken l = by_page (published_by cpu a) refl
   where
-    by_page : (o : Option ℕ) → published_by cpu a ≡ o → (processor_at b c).version + 2 * is_page c o ≤ LAST_VERSION + 1
+    by_page : (o : Option ℕ) → published_by cpu a ≡ o → get_or m.versions c 0 + 2 * is_page c o ≤ LAST_VERSION + 1
     by_page None e = omega arith
     by_page (Some d) e = by_test (eqb d c) refl
       where
-        by_test : (t : Bool) → eqb d c ≡ t → (processor_at b c).version + 2 * (if t then 1 else 0) ≤ LAST_VERSION + 1
+        by_test : (t : Bool) → eqb d c ≡ t → get_or m.versions c 0 + 2 * (if t then 1 else 0) ≤ LAST_VERSION + 1
         by_test true is =
             let some : published_by cpu a ≡ Some c = e ∙ ap (λ (n : ℕ). Some n) (eqb-true d c is) in
-            let v = taken_page b cpu h a taken c (publishes_wall-page cpu c a some) some in omega arith
+            let v = raised_page m cpu a (taken_version m cpu h a taken) c some in omega arith
         by_test false is = omega arith
 
-pub raises_page : (c : ℕ) → Raises (suc c) (λ b. (processor_at b c).version) (publishes c) 2 (LAST_VERSION + 1)
+pub raises_page : (c : ℕ) → Raises (suc c) (λ m. get_or m.versions c 0) (publishes c) 2 (LAST_VERSION + 1)
 raises_page c = record {
-  access = λ b cpu h a l. version_is b cpu h c a l;
-  clamp = λ b g. refl;
-  room = λ b cpu h a taken l. version_room b cpu h c a taken l;
+  access = λ m cpu h a l. raised_page_is (published_by cpu a) m.versions c l;
+  room = λ m cpu h a taken l. version_room m cpu h c a taken l;
 }
 
--- the version of the wall clock's words
+-- the version of the wall clock's words, and that of the reference page
 abbrev pub publishes_words : ℕ → ℕ → Access → ℕ
 publishes_words cpu h a = if publishes_wall a then 1 else 0
+
+abbrev pub publishes_reference : ℕ → ℕ → Access → ℕ
+publishes_reference cpu h a = if publishes_hv a then 1 else 0
 
 raised_is : (t : Bool) (v : ℕ) → (if t then v + 2 else v) ≡ v + 2 * (if t then 1 else 0)
 raised_is true v = omega arith
 raised_is false v = omega arith
 
-wall_room : (b : BoardParts) (cpu h : ℕ) (a : Access) → refusal_of b cpu h a ≡ None → b.wall_version ≤ LAST_VERSION + 1
-    → b.wall_version + 2 * publishes_words cpu h a ≤ LAST_VERSION + 1
-wall_room b cpu h a taken l = by_test (publishes_wall a) refl
-  where
-    by_test : (t : Bool) → publishes_wall a ≡ t → b.wall_version + 2 * (if t then 1 else 0) ≤ LAST_VERSION + 1
-    by_test true is =
-        let raised : raised_version b.processors b.wall_version b.hv.version cpu a ≡ Some b.wall_version =
-        ap (λ (w : Bool). cond w (Some b.wall_version) (cond (publishes_hv a) (Some b.hv.version) (version_at (published_by cpu a) b.processors))) is in
-        let less : b.wall_version < LAST_VERSION =
-        subst (λ (v : Option ℕ). IfSome v (λ n. n < LAST_VERSION)) raised (taken_version b cpu h a taken) in omega arith
-    by_test false is = omega arith
+raised_room : (t : Bool) (v : ℕ) → (t ≡ true → v < LAST_VERSION) → v ≤ LAST_VERSION + 1 → v + 2 * (if t then 1 else 0) ≤ LAST_VERSION + 1
+raised_room true v less l = let below = less refl in omega arith
+raised_room false v less l = omega arith
 
-pub raises_wall : Raises 0 (λ b. b.wall_version) publishes_words 2 (LAST_VERSION + 1)
+pub raises_wall : Raises 0 (λ m. m.wall_version) publishes_words 2 (LAST_VERSION + 1)
 raises_wall = record {
-  access = λ b cpu h a l. wall_version-after b cpu h a ∙ raised_is (publishes_wall a) b.wall_version;
-  clamp = λ b g. refl;
-  room = λ b cpu h a taken l. wall_room b cpu h a taken l;
+  access = λ m cpu h a l. raised_is (publishes_wall a) m.wall_version;
+  room = λ m cpu h a taken l. raised_room (publishes_wall a) m.wall_version (taken_wall m cpu h a taken) l;
 }
 
--- the version of the reference page
-abbrev pub publishes_reference : ℕ → ℕ → Access → ℕ
-publishes_reference cpu h a = if publishes_hv a then 1 else 0
-
-hv_room : (b : BoardParts) (cpu h : ℕ) (a : Access) → refusal_of b cpu h a ≡ None → b.hv.version ≤ LAST_VERSION + 1
-    → b.hv.version + 2 * publishes_reference cpu h a ≤ LAST_VERSION + 1
-hv_room b cpu h a taken l = by_test (publishes_hv a) refl
-  where
-    by_test : (t : Bool) → publishes_hv a ≡ t → b.hv.version + 2 * (if t then 1 else 0) ≤ LAST_VERSION + 1
-    by_test true is = let less = taken_hv b cpu h a taken is in omega arith
-    by_test false is = omega arith
-
-pub raises_hv : Raises 0 (λ b. b.hv.version) publishes_reference 2 (LAST_VERSION + 1)
+pub raises_hv : Raises 0 (λ m. m.hv_version) publishes_reference 2 (LAST_VERSION + 1)
 raises_hv = record {
-  access = λ b cpu h a l. hv_version-after b cpu h a ∙ raised_is (publishes_hv a) b.hv.version;
-  clamp = λ b g. refl;
-  room = λ b cpu h a taken l. hv_room b cpu h a taken l;
+  access = λ m cpu h a l. raised_is (publishes_hv a) m.hv_version;
+  room = λ m cpu h a taken l. raised_room (publishes_hv a) m.hv_version (taken_hv m cpu h a taken) l;
 }
+
+-- the meters after a history
+abbrev pub meters_after : List Entry → Meters
+meters_after es = meters_of (board_after es)
+
+-- .. after one entry more: they count an access, and nothing else
+abbrev pub metered : Entry → Meters → Meters
+metered (Board pass cpu h access reply) m = counted cpu h access m
+metered _ m = m
+
+pub meters_of-entry : (before : List Entry) (e : Entry) → May before e → meters_after (before ++ e ∷ []) ≡ metered e (meters_after before)
+meters_of-entry before e may = ap meters_of (board_after-snoc before e) ∙ by e may
+  where
+    by : (e : Entry) → May before e → meters_of (after_entry (board_after before) e) ≡ metered e (meters_after before)
+    by (Opened s) may = absurd may
+    by (Board pass cpu h access reply) may = meters_of-access (board_after before) cpu h access
+    by (PageRead pass cpu h page locked) may = refl
+    by (HvRead pass h page locked) may = refl
+    by (Clamp pass cpu reading clock) may = meters_of-greatest (board_after before) clock
+
+-- an access keeps how many pages there are
+pub length-raised : (o : Option ℕ) (vs : List ℕ) → length (raised_at o vs) ≡ length vs
+length-raised None vs = refl
+length-raised (Some k) vs = length-set vs k (get_or vs k 0 + 2)
+
+places-metered : (e : Entry) (m : Meters) → length (metered e m).versions ≡ length m.versions
+places-metered (Board pass cpu h access reply) m = length-raised (published_by cpu access) m.versions
+places-metered _ m = refl
 
 -- a history raises the number by the weight of its entries
-places-entry : (before : List Entry) (e : Entry) → May before e
-    → length (after_entry (board_after before) e).processors ≡ length (board_after before).processors
-places-entry before (Opened s) may = absurd may
-places-entry before (Board pass cpu h access reply) may = length-processors (board_after before) cpu h access
-places-entry before _ may = refl
+module _ (n : ℕ) (q : Meters → ℕ) (f : ℕ → ℕ → Access → ℕ) (k most : ℕ) (r : Raises n q f k most) where
+  raised-metered : (e : Entry) (m : Meters) → n ≤ length m.versions → q (metered e m) ≡ q m + k * of_entry f e
+  raised-metered (Board pass cpu h access reply) m l = r.access m cpu h access l
+  raised-metered (Opened s) m l = omega arith
+  raised-metered (PageRead pass cpu h page locked) m l = omega arith
+  raised-metered (HvRead pass h page locked) m l = omega arith
+  raised-metered (Clamp pass cpu reading clock) m l = omega arith
 
-pub places-stay : (before xs : List Entry) → LegalFrom before xs → length (board_after (before ++ xs)).processors ≡ length (board_after before).processors
-places-stay before [] l = ap (λ h. length (board_after h).processors) (append-nil before)
-places-stay before (x ∷ xs) l =
-    sym (ap (λ h. length (board_after h).processors) (append_assoc before (x ∷ []) xs))
-    ∙ (places-stay (before ++ x ∷ []) xs l.1
-    ∙ (ap (λ (b : BoardParts). length b.processors) (board_after-snoc before x) ∙ places-entry before x l.0))
-
-module _ (n : ℕ) (q : BoardParts → ℕ) (f : ℕ → ℕ → Access → ℕ) (k most : ℕ) (r : Raises n q f k most) where
-  raised-entry : (before : List Entry) (e : Entry) → May before e → n ≤ length (board_after before).processors
-      → q (after_entry (board_after before) e) ≡ q (board_after before) + k * of_entry f e
-  raised-entry before (Opened s) may l = absurd may
-  raised-entry before (Board pass cpu h access reply) may l = r.access (board_after before) cpu h access l
-  raised-entry before (PageRead pass cpu h page locked) may l = omega arith
-  raised-entry before (HvRead pass h page locked) may l = omega arith
-  raised-entry before (Clamp pass cpu reading clock) may l = let c = r.clamp (board_after before) clock in omega arith
-
-  pub raised : (before xs : List Entry) → LegalFrom before xs → n ≤ length (board_after before).processors
-      → q (board_after (before ++ xs)) ≡ q (board_after before) + k * weigh (of_entry f) xs
-  raised before [] l small = ap (λ h. q (board_after h)) (append-nil before) ∙ omega arith
+  pub raised : (before xs : List Entry) → LegalFrom before xs → n ≤ length (meters_after before).versions
+      → q (meters_after (before ++ xs)) ≡ q (meters_after before) + k * weigh (of_entry f) xs
+  raised before [] l small = ap (λ h. q (meters_after h)) (append-nil before) ∙ omega arith
   raised before (x ∷ xs) l small =
-      let one : q (board_after (before ++ x ∷ [])) ≡ q (board_after before) + k * of_entry f x =
-      ap q (board_after-snoc before x) ∙ raised-entry before x l.0 small in
-      let places : length (board_after (before ++ x ∷ [])).processors ≡ length (board_after before).processors =
-      ap (λ (b : BoardParts). length b.processors) (board_after-snoc before x) ∙ places-entry before x l.0 in
-      let more : q (board_after ((before ++ x ∷ []) ++ xs)) ≡ q (board_after (before ++ x ∷ [])) + k * weigh (of_entry f) xs =
+      let here = meters_of-entry before x l.0 in
+      let one : q (meters_after (before ++ x ∷ [])) ≡ q (meters_after before) + k * of_entry f x =
+      ap q here ∙ raised-metered x (meters_after before) small in
+      let places : length (meters_after (before ++ x ∷ [])).versions ≡ length (meters_after before).versions =
+      ap (λ (m : Meters). length m.versions) here ∙ places-metered x (meters_after before) in
+      let more : q (meters_after ((before ++ x ∷ []) ++ xs)) ≡ q (meters_after (before ++ x ∷ [])) + k * weigh (of_entry f) xs =
       raised (before ++ x ∷ []) xs l.1 (omega arith) in
-      let same : q (board_after ((before ++ x ∷ []) ++ xs)) ≡ q (board_after (before ++ x ∷ xs)) =
-      ap (λ h. q (board_after h)) (append_assoc before (x ∷ []) xs) in
+      let same : q (meters_after ((before ++ x ∷ []) ++ xs)) ≡ q (meters_after (before ++ x ∷ xs)) =
+      ap (λ h. q (meters_after h)) (append_assoc before (x ∷ []) xs) in
       omega arith
 
 -- the weight of the entries of k numbers from n on

@@ -5,7 +5,6 @@ pub mod Counts
 pub mod Ended
 pub mod Gathered
 pub mod Going
-mod Moves
 pub mod Parts
 pub mod Pieces
 pub mod Runs
@@ -13,8 +12,6 @@ pub mod Same
 pub mod Settle
 pub mod Steps
 pub mod Taken
-pub mod Tallies
-pub mod Unpacked
 pub mod Unread
 pub mod Workers
 mod Rows

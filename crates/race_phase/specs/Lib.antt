@@ -2,5 +2,4 @@ pub mod Calls
 pub mod Order
 pub mod Parts
 pub mod Phases
-pub mod Tallies
 pub mod private

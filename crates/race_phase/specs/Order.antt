@@ -1,46 +1,35 @@
--- The records in file order, as one thread would take them: what they leave, and which is refused.
+-- The records in file order, as one thread would take them: the meters that they leave, and which is refused.
 use Rattle.std.specs.Prelude.{ℕ, List, [], ◌∷◌, Option, None}
-use Rattle.std.specs.Option.{option_or, option_map}
-use Rattle.board_types.specs.declared.parts.BoardParts.{BoardParts}
-use Rattle.board_core.specs.Access.{after_access}
-use Rattle.board_core.specs.Time.{time_fault}
-use Rattle.board_core.specs.Refusals.{refusal_of}
-use Rattle.trace_blocks.specs.declared.faults.Cause.{Cause}
-use Rattle.trace_blocks.specs.declared.faults.Cause.TheVariants.{Access as ByAccess, Count as ByCount}
-use Rattle.trace_blocks.specs.declared.faults.Fault.{Fault}
-use Rattle.trace_blocks.specs.Ends.{at_line}
+use Rattle.std.specs.Option.{option_or}
+use Rattle.board_meters.specs.declared.meters.Meters.{Meters}
+use Rattle.board_meters.specs.Meters.{counted}
+use Rattle.reply_text.specs.declared.ends.Refused.{Refused}
 use Rattle.trace_records.specs.declared.Call.{Call}
 use Rattle.trace_records.specs.declared.Call.TheVariants.{Act, ReadPage, ReadClock, ReadHv}
 use Rattle.trace_blocks.specs.declared.records.Record.{Record}
+use Rattle.trace_blocks.specs.Refusals.{call_refusal}
 
--- why a call is refused: an access by the board, a read as its count has no time
-abbrev pub call_cause : BoardParts → ℕ → ℕ → Call → Option Cause
-call_cause b cpu h (Act a) = option_map ByAccess (refusal_of b cpu h a)
-call_cause b cpu h (ReadPage page) = option_map ByCount (time_fault b.anchor h)
-call_cause b cpu h (ReadClock page) = option_map ByCount (time_fault b.anchor h)
-call_cause b cpu h ReadHv = option_map ByCount (time_fault b.anchor h)
+-- why a record is refused
+abbrev pub record_refusal : Meters → Record → Option Refused
+record_refusal m r = call_refusal m r.cpu r.h r.call
 
--- .. and a record, with its line
-abbrev pub record_fault : BoardParts → Record → Option Fault
-record_fault b r = at_line r.line (call_cause b r.cpu r.h r.call)
-
--- the board after a call, but for the greatest clock reading, on which no refusal depends
-abbrev pub after_call : BoardParts → ℕ → ℕ → Call → BoardParts
-after_call b cpu h (Act a) = after_access b cpu h a
-after_call b cpu h (ReadPage page) = b
-after_call b cpu h (ReadClock page) = b
-after_call b cpu h ReadHv = b
+-- the meters after a call: a read leaves them
+abbrev pub after_call : Meters → ℕ → ℕ → Call → Meters
+after_call m cpu h (Act a) = counted cpu h a m
+after_call m cpu h (ReadPage page) = m
+after_call m cpu h (ReadClock page) = m
+after_call m cpu h ReadHv = m
 
 -- after a record
-abbrev pub after_record : BoardParts → Record → BoardParts
-after_record b r = after_call b r.cpu r.h r.call
+abbrev pub after_record : Meters → Record → Meters
+after_record m r = after_call m r.cpu r.h r.call
 
 -- after records, in order
-abbrev pub after_records : BoardParts → List Record → BoardParts
-after_records b [] = b
-after_records b (r ∷ rs) = after_records (after_record b r) rs
+abbrev pub after_records : Meters → List Record → Meters
+after_records m [] = m
+after_records m (r ∷ rs) = after_records (after_record m r) rs
 
--- the first of these records that is refused
-abbrev pub records_fault : BoardParts → List Record → Option Fault
-records_fault b [] = None
-records_fault b (r ∷ rs) = option_or (record_fault b r) (records_fault (after_record b r) rs)
+-- why the first of these records that is refused is so
+abbrev pub records_refusal : Meters → List Record → Option Refused
+records_refusal m [] = None
+records_refusal m (r ∷ rs) = option_or (record_refusal m r) (records_refusal (after_record m r) rs)

@@ -5,16 +5,17 @@ use Rattle.trace_blocks.specs.declared.deliveries.Deliveries.{Deliveries}
 use Rattle.board_types.specs.declared.access.Access.TheVariants.{Step}
 use Rattle.board_types.specs.declared.parts.BoardParts.{BoardParts}
 use Rattle.board_core.specs.Access.{reply_of}
+use Rattle.board_meters.specs.declared.meters.Meters.{Meters}
 use Rattle.board_history.specs.History.{IsLegal, Opens, board_after, entries_of}
 use Rattle.board_history.specs.declared.entry.Entry.{Entry}
 use Rattle.board_history.specs.declared.entry.Entry.TheVariants.{Board}
-use Rattle.trace_blocks.specs.declared.faults.Fault.{Fault}
+use Rattle.reply_text.specs.declared.ends.Refused.{Refused}
 use Rattle.trace_blocks.specs.declared.ends.End.{End}
 use Rattle.trace_blocks.specs.declared.ends.End.TheVariants.{Finish, Save, Move}
 use Rattle.race_phase.specs.declared.phases.Phase.{Phase}
-use Rattle.trace_blocks.specs.Ends.{IsEnd, end_fault, end_text, next_board}
+use Rattle.trace_blocks.specs.Ends.{IsEnd, end_refusal, end_text, next_board, next_meters}
 use Rattle.race_phase.specs.Calls.{IsFitting, Shown}
-use Rattle.race_phase.specs.Order.{after_records, records_fault}
+use Rattle.race_phase.specs.Order.{after_records, records_refusal}
 
 -- a board of this many processors and this format takes a phase: its records, at most 2^62, and its end
 pub record IsPhase (cpus format : ℕ) (v : Phase) : Type 0 where
@@ -23,17 +24,17 @@ pub record IsPhase (cpus format : ℕ) (v : Phase) : Type 0 where
   pub end : IsEnd cpus v.end
 
 -- the first fault of a trace in file order
-abbrev pub after_phase : BoardParts → Phase → BoardParts
-after_phase b v = next_board v.end (after_records b v.records)
+abbrev pub after_phase : Meters → Phase → Meters
+after_phase m v = next_meters v.end (after_records m v.records)
 
 -- .. of a phase: that of its records, or else of its end
-abbrev pub phase_fault : BoardParts → Phase → Option Fault
-phase_fault b v = option_or (records_fault b v.records) (end_fault (after_records b v.records) v.end)
+abbrev pub phase_refusal : Meters → Phase → Option Refused
+phase_refusal m v = option_or (records_refusal m v.records) (end_refusal (after_records m v.records) v.end)
 
 -- .. of phases, one after another
-abbrev pub trace_fault : BoardParts → List Phase → Option Fault
-trace_fault b [] = None
-trace_fault b (v ∷ vs) = option_or (phase_fault b v) (trace_fault (after_phase b v) vs)
+abbrev pub trace_refusal : Meters → List Phase → Option Refused
+trace_refusal m [] = None
+trace_refusal m (v ∷ vs) = option_or (phase_refusal m v) (trace_refusal (after_phase m v) vs)
 
 -- the entry of what ends a phase, if that is an access: it is in its processor's pass
 abbrev pub end_entries : End → BoardParts → List Entry

@@ -1,7 +1,7 @@
 //! Which phases start threads.
 use crate::draws::Draws;
-use crate::packed::RecordList;
 use crate::piece::Part;
+use crate::records::RecordList;
 use worker_turns::Schedule;
 
 /// A phase with at least so many records always has its threads.

@@ -4,6 +4,7 @@ ghost use Rattle.std.specs.Prelude.{◌≡◌, ◌<◌, ◌≤◌, ◌+◌, ◌^
 ghost use Rattle.std.specs.Bool.{OnTrue};
 ghost use Rattle.board_history.specs.History.{IsLegal};
 ghost use Rattle.race_phase.specs.Calls.{IsFitting};
+ghost use Rattle.race_phase.specs.private.Told.{reading};
 ghost use Rattle.race_phase.specs.private.Workers.{
   places_text,
   AllAnswered,
@@ -21,7 +22,7 @@ use board_core::{Access, Reply};
 use board_io::Gate;
 use clk_units::NoMemory;
 use clock_table::Name;
-use shared_board::{Asked, Holding, Pass};
+use shared_board::{Asked, Holding, Pass, Read};
 use std::alloc::Global;
 use std::sync::Wait;
 use trace_blocks::{Deliveries, Record};
@@ -267,27 +268,36 @@ fn answer<N: Name, R: Wait, G: Gate>(
             let mut holding = worker.board.hold(worker.rt);
             answer_access(worker, &mut holding, pass, given, access, place)
         }
-        Call::ReadPage { page } => match worker.board.read_page(worker.rt, pass, page, given.h) {
-            Ok(reply) => {
-                place.told = Told::PageIs { reply };
-                Ok(())
-            }
-            Err(_fault) => Err(Halted),
-        },
-        Call::ReadClock { page } => match worker.board.read_clock(worker.rt, pass, page, given.h) {
-            Ok(reply) => {
-                place.told = Told::ClockIs { reply };
-                Ok(())
-            }
-            Err(_fault) => Err(Halted),
-        },
-        Call::ReadHv => match worker.board.read_hv(worker.rt, pass, given.h) {
-            Ok(reply) => {
-                place.told = Told::HvIs { reply };
-                Ok(())
-            }
-            Err(_fault) => Err(Halted),
-        },
+        Call::ReadPage { page } => {
+            answer_read(worker, pass, given, Read::Page { cpu: page }, place)
+        }
+        Call::ReadClock { page } => {
+            answer_read(worker, pass, given, Read::Clock { cpu: page }, place)
+        }
+        Call::ReadHv => answer_read(worker, pass, given, Read::Hv, place),
+    }
+}
+
+/// Answers a record that reads this.
+#[inline(always)]
+fn answer_read<N: Name, R: Wait, G>(
+    worker: &Worker<'_, N, R, G>,
+    pass: &mut Pass<N>,
+    given: &Record,
+    what: Read,
+    place: &mut Place,
+) -> Result<(), Halted>
+    requires call { given.now.call ≡ reading what }
+    requires fitting { IsFitting N.state.cpus N.state.format given.now }
+    requires legal { IsLegal pass.old.seen }
+    ensures { HasAnswered N.state given.now place.new result pass.old pass.new }
+{
+    match worker.board.read(worker.rt, pass, what, given.h) {
+        Ok(reply) => {
+            place.told = Told::Read { reply };
+            Ok(())
+        }
+        Err(_fault) => Err(Halted),
     }
 }
 

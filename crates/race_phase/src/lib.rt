@@ -20,7 +20,7 @@
 //! }
 //!
 //! fn read<F: Feeding>(writer: &mut Writer<'_, F>) {
-//!     let mut tally = Tally::of_board(&state);
+//!     let mut tally = state.tally();
 //!     writer.open(&state, &deliveries)?;
 //!     tally.admit(0, 1_000, Access::Step)?;                          // refused as the board would
 //!     tally.count(0, 1_000, Access::Step);
@@ -39,12 +39,11 @@ mod halt;
 mod means;
 mod opening;
 mod pace;
-mod packed;
 mod phase;
 mod phases;
 mod piece;
 mod race;
-mod tally;
+mod records;
 mod team;
 mod text;
 mod texts;
@@ -58,10 +57,9 @@ mod written;
 pub use feed::{Feed, Feeding, Row};
 pub use halt::Halt;
 pub use opening::Opening;
-pub use packed::RecordList;
 pub use phases::Phase;
 pub use race::{Ran, run_race};
-pub use tally::Tally;
+pub use records::RecordList;
 pub use text::{SHORT, Text};
 pub use writer::Writer;
 pub use written::Written;

@@ -1,5 +1,5 @@
 //! A trace by its phases.
-use crate::packed::RecordList;
+use crate::records::RecordList;
 use trace_blocks::End;
 
 /// Records in file order, and what ends them.

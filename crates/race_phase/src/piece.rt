@@ -2,7 +2,7 @@
 ghost use Rattle.std.specs.Prelude.{◌≡◌, All, IfSome, length};
 ghost use Rattle.race_phase.specs.Parts.{IsPart, part_at};
 
-use crate::packed::RecordList;
+use crate::records::RecordList;
 use std::marker::Model;
 use trace_blocks::End;
 

@@ -1,6 +1,7 @@
 //! A trace of phases, run by one thread a processor.
 ghost use Rattle.std.specs.Prelude.{◌≡◌, ◌++◌, [], None, IfOk, IfSome, OnOk};
-ghost use Rattle.race_phase.specs.Phases.{trace_fault, race_text};
+ghost use Rattle.board_core.specs.Refusals.{meters_of};
+ghost use Rattle.race_phase.specs.Phases.{trace_refusal, race_text};
 ghost use Rattle.race_phase.specs.private.Feed.{PhaseHasEnded, board_or};
 
 use crate::allowance::Allowance;
@@ -44,7 +45,7 @@ pub fn run_race<'a, F: Feeding + Send + Sync, R: Threads + Wait + Sync, G: Gate 
     feed: &'a Feed<F>,
 ) -> Result<Ran<'a, F>, Halt>
     ensures { IfOk result (λ r. IfSome r.trace.opened (λ o.
-        trace_fault o.state r.trace.phases ≡ None
+        trace_refusal (meters_of o.state) r.trace.phases ≡ None
         → race_text o.deliveries o.state r.trace.phases r.state.value r.text)) }
 {
     let opened = feed.opened(rt)?;
@@ -140,7 +141,7 @@ fn run_and_end<'a, F: Feeding + Send + Sync, R: Threads + Wait + Sync, G: Gate +
         end,
         next,
     } = run_phase::<Brand, F, R, G>(means, blank, state, deliveries, feed, from, allowance)?;
-    if board.cpus() != state.cpus() || board.format() != state.format() {
+    if board.cpus() != state.cpus() {
         return Err(Halt::Closed);
     }
     text.join(lines)?;

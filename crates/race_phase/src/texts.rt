@@ -7,6 +7,7 @@ use crate::told::Told;
 use board_core::Reply;
 use clk_units::NoMemory;
 use reply_text::{clock_line, hv_line, page_line};
+use shared_board::ReadReply;
 use trace_blocks::{Deliveries, access_block};
 
 /// Appends the block of a record that was answered so; the reply of an access is this.
@@ -23,8 +24,10 @@ pub(crate) fn append_block(
 {
     match told {
         Told::Acted => access_block(line, reply, deliveries, None, out),
-        Told::PageIs { reply } => page_line(line, reply, out),
-        Told::ClockIs { reply } => clock_line(line, reply, out),
-        Told::HvIs { reply } => hv_line(line, reply, out),
+        Told::Read { reply } => match reply {
+            ReadReply::Page { reply } => page_line(line, reply, out),
+            ReadReply::Clock { reply } => clock_line(line, reply, out),
+            ReadReply::Hv { reply } => hv_line(line, reply, out),
+        },
     }
 }

@@ -2,20 +2,15 @@
 ghost use Rattle.std.specs.Prelude.{◌≡◌};
 ghost use Rattle.race_phase.specs.declared.told.Told.TheVariants.{Acted};
 
-use hv_page::HvReply;
-use pvclock_page::{ClockReply, PageReply};
+use shared_board::ReadReply;
 
 /// What a record was answered. The reply of an access is apart, where the worker keeps it.
 #[derive(Drop)]
 pub(crate) enum Told {
     /// The access was done.
     Acted,
-    /// A page.
-    PageIs { reply: PageReply },
-    /// A reading of the clock.
-    ClockIs { reply: ClockReply },
-    /// The reference page.
-    HvIs { reply: HvReply },
+    /// Pages or the clock were read.
+    Read { reply: ReadReply },
 }
 
 impl Told {

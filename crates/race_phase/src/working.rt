@@ -9,8 +9,8 @@ ghost use Rattle.race_phase.specs.private.Working.{IsReady, IsWorking};
 
 use crate::batch::{Halted, Place, new_places, print_all};
 use crate::pace::{FEW, MOST_AT_ONCE, Pace};
-use crate::packed::RecordList;
 use crate::piece::Part;
+use crate::records::RecordList;
 use crate::worker::Worker;
 use board_io::Gate;
 use clk_units::NoMemory;

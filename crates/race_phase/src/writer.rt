@@ -6,8 +6,8 @@ ghost use Rattle.trace_blocks.specs.Ends.{IsEnd};
 
 use crate::feed::{Feed, Feeding, Opened, Shown, Taken};
 use crate::opening::Opening;
-use crate::packed::RecordList;
 use crate::piece::{PART_LEN, Part, Piece};
+use crate::records::RecordList;
 use crate::written::Written;
 use board_core::BoardState;
 use clk_units::NoMemory;

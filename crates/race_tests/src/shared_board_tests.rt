@@ -14,7 +14,7 @@ use clock_table::Name;
 use host_counter::TimeFault;
 use pvclock_page::{ClockReply, Page, PageReply};
 use setups::{Case, Ready, plain_board, stopped, test_on};
-use shared_board::{Asked, LockedFault, PageFault, Pass, PassesOut, SharedBoard};
+use shared_board::{Asked, LockedFault, PageFault, Pass, PassesOut, Read, ReadReply, SharedBoard};
 use std::alloc::Global;
 use std::process::Abort;
 use std::sync::Wait;
@@ -57,6 +57,13 @@ const ENABLE: Access = Access::MsrWrite {
     value: 1,
 };
 
+/// A clock that was read.
+fn clock_is(reading: u64, clock: u64) -> ReadReply {
+    ReadReply::Clock {
+        reply: ClockReply::On { reading, clock },
+    }
+}
+
 #[test]
 fn pages_and_clocks_by_one_pass(rt: HostRuntime) -> Result<(), Fail> {
     test_on(&rt, rt.alloc(), Case::ReadByOne, plain_board(), 1)
@@ -67,49 +74,24 @@ fn read_by_one<N: Name, R: Wait + Abort>(rt: &R, ready: Ready<N>) -> Result<(), 
     let (board, mut pass) = ready.one()?;
     same(rt, "page 0", number(rt, &board, &mut pass, 0, 0, ENABLE), 1);
     same(rt, "page 1", number(rt, &board, &mut pass, 1, 0, ENABLE), 2);
-    let clock = ClockReply::On {
-        reading: 1_000,
-        clock: 1_000,
+    let clock = clock_is(1_000, 1_000);
+    let of_clock = Read::Clock { cpu: 0 };
+    let read = board.read(rt, &mut pass, of_clock, 1_000);
+    same(rt, "read, the clock", read, Ok(clock));
+    let page = ReadReply::Page {
+        reply: PageReply::On {
+            page: ENABLED,
+            reading: 900,
+        },
     };
-    same(
-        rt,
-        "read_clock",
-        board.read_clock(rt, &mut pass, 0, 1_000),
-        Ok(clock),
-    );
-    let page = PageReply::On {
-        page: ENABLED,
-        reading: 900,
-    };
-    same(
-        rt,
-        "page_locked",
-        board.page_locked(rt, &mut pass, 1, 900),
-        Ok(page),
-    );
-    same(rt, "try_page", board.try_page(&mut pass, 1, 900), Ok(page));
-    same(
-        rt,
-        "read_page",
-        board.read_page(rt, &mut pass, 1, 900),
-        Ok(page),
-    );
-    let clamped = ClockReply::On {
-        reading: 900,
-        clock: 1_000,
-    };
-    same(
-        rt,
-        "try_clock",
-        board.try_clock(&mut pass, 1, 900),
-        Ok(clamped),
-    );
-    same(
-        rt,
-        "clock_locked",
-        board.clock_locked(rt, &mut pass, 0, 1_000),
-        Ok(clock),
-    );
+    let of_page = Read::Page { cpu: 1 };
+    let tried = board.try_read(&mut pass, of_page, 900);
+    same(rt, "try_read, a page", tried, Ok(page));
+    let read = board.read(rt, &mut pass, of_page, 900);
+    same(rt, "read, a page", read, Ok(page));
+    let by_other = board.try_read(&mut pass, Read::Clock { cpu: 1 }, 900);
+    let clamped = clock_is(900, 1_000);
+    same(rt, "try_read, the clock", by_other, Ok(clamped));
     read_past_the_range(rt, &board, &mut pass);
     Ok(())
 }
@@ -121,10 +103,11 @@ fn read_past_the_range<N: Name, R: Wait + Abort>(rt: &R, board: &SharedBoard<N>,
     let past = TimeFault::OutOfRange {
         ns: u128::from(u64::MAX),
     };
-    let tried = board.try_page(pass, 0, u64::MAX);
-    same(rt, "try_page", tried, Err(PageFault::NoTime(past)));
-    let locked = board.page_locked(rt, pass, 0, u64::MAX);
-    same(rt, "page_locked", locked, Err(LockedFault::NoTime(past)));
+    let of_page = Read::Page { cpu: 0 };
+    let tried = board.try_read(pass, of_page, u64::MAX);
+    same(rt, "try_read", tried, Err(PageFault::NoTime(past)));
+    let read = board.read(rt, pass, of_page, u64::MAX);
+    same(rt, "read", read, Err(LockedFault::NoTime(past)));
 }
 
 #[test]
@@ -143,16 +126,8 @@ fn stopped_twice<N: Name, R: Wait + Abort>(
     let (board, mut pass, other) = ready.two()?;
     same(rt, "the pass", pass.number(), 1);
     same(rt, "page 0", number(rt, &board, &mut pass, 0, 5, ENABLE), 1);
-    let clamped = ClockReply::On {
-        reading: 900,
-        clock: 1_000,
-    };
-    same(
-        rt,
-        "try_clock",
-        board.try_clock(&mut pass, 0, 900),
-        Ok(clamped),
-    );
+    let tried = board.try_read(&mut pass, Read::Clock { cpu: 0 }, 900);
+    same(rt, "try_read, the clock", tried, Ok(clock_is(900, 1_000)));
     let mut others = Vec::new(alloc);
     others.push(other)?;
     let PassesOut {

@@ -13,7 +13,7 @@ use Rattle.save_state.proofs.Names.{false, ◌&&◌, ◌||◌, leb, ltb, [], len
 use Rattle.save_state.proofs.Names.{fields_of, format_in, cpus_in, board_in, front_rows, trailing, fault_of, option_or-both}
 use Rattle.save_state.proofs.Names.{fault-parts, StateFault, Fields, size_of, option_or, fault_in, AreBytes, option_or-none, ◌++◌}
 use Rattle.save_state.proofs.Names.{blocks-none, khz_valid, host_valid, IsKhz, processors_of, MOST_ACCESSES, SLEW_MAX_NS}
-use Rattle.board_core.specs.Time.{HasTime}
+use Rattle.host_counter.specs.Time.{HasTime}
 use Rattle.save_state.proofs.BlockRows.{ended, option_or-some, rows-valid, front-rows, counter-rows, clock-rows, timer-rows, registers-rows, line-rows, wall-rows, rises-rows, message-rows}
 use Rattle.save_state.proofs.Blocks.{TicksHold, ticks-hold, processor-valid, reference-valid}
 use Rattle.save_state.proofs.{ApicLaws.apics-valid, RoundTrip.IsRead, RoundTrip.board-read}

@@ -12,7 +12,8 @@ ghost use Rattle.lapic_timer.specs.Parts.{
 };
 ghost use Rattle.board_types.specs.declared.parts.TheConstants.{MOST_ACCESSES};
 ghost use Rattle.board_core.specs.Apics.{apics_of};
-ghost use Rattle.board_core.specs.Time.{now_of, HasTime};
+ghost use Rattle.board_core.specs.Time.{now_of};
+ghost use Rattle.host_counter.specs.Time.{HasTime};
 ghost use Rattle.byte_table.specs.Fold.{write, read, fault_in, size_of};
 ghost use Rattle.byte_table.specs.Reading.{IsPast, Passes};
 ghost use Rattle.save_state.specs.Fields.{apic_timer, apic, no_apic, apic_pairs, apics};

@@ -19,7 +19,7 @@ use Rattle.clock_table.specs.declared.call.Asked.{Asked}
 use Rattle.clock_table.specs.declared.call.Call.{Call}
 use Rattle.shared_board.specs.Passes.{Answered, Unanswered, Refused}
 use Rattle.std.proofs.Common.{append-nil}
-use Rattle.shared_board.specs.Pages.{HadRoom}
+use Rattle.shared_board.specs.Reads.{HadRoom}
 use Rattle.shared_board.specs.Faults.{IsFull}
 use Rattle.shared_board.specs.private.Seats.{known, IsAtRest, IsBelow, AreAlike, IsHeldBy, IsHeld, PenMoved, IsPenOf, HasActed, HasRefused, IsSpentAt}
 use Rattle.clock_table.specs.Calls.{entry_of}

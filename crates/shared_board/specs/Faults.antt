@@ -1,8 +1,8 @@
 -- Why a page wasn't read.
-use Rattle.std.specs.Prelude.{◌≡◌, ℕ, ◌+◌, ◌≤◌, ◌^◌, List, [], ◌∷◌, true}
+use Rattle.std.specs.Prelude.{◌≡◌, ℕ, ◌+◌, ◌≤◌, ◌^◌, List, [], ◌∷◌, true, Some}
 use Rattle.host_counter.specs.declared.Anchor.{Anchor}
-use Rattle.host_counter.specs.Time.{IsFaultAt}
-use Rattle.board_core.specs.Time.{HasTime}
+use Rattle.host_counter.specs.Time.{time_fault}
+use Rattle.host_counter.specs.Time.{HasTime}
 use Rattle.board_history.specs.declared.entry.Entry.{Entry}
 use Rattle.board_history.specs.declared.entry.Entry.TheVariants.{Opened, Board, PageRead, HvRead, Clamp}
 use Rattle.clock_table.specs.Steps.{loud}
@@ -24,7 +24,7 @@ page_reads (Clamp pass cpu reading clock ∷ es) = page_reads es
 
 -- a try: the count has no time, and the pass is as it was; or it met an update
 abbrev pub IsPageFault : Anchor → ℕ → ℕ → PageFault → PassKnown → PassKnown → Type 0
-IsPageFault anchor cpu h (NoTime fault) p q = IsFaultAt anchor h fault × (q ≡ p)
+IsPageFault anchor cpu h (NoTime fault) p q = (time_fault anchor h ≡ Some fault) × (q ≡ p)
 IsPageFault anchor cpu h (Again first second) p q =
     HasTime anchor h × Missed cpu first second p q
 
@@ -36,12 +36,12 @@ pub record IsFull (front : ℕ) (seen : List Entry) : Type 0 where
 
 -- a read under the lock
 abbrev pub IsLockedFault : Anchor → ℕ → LockedFault → PassKnown → PassKnown → Type 0
-IsLockedFault anchor h (LockedNoTime fault) p q = IsFaultAt anchor h fault × (q ≡ p)
+IsLockedFault anchor h (LockedNoTime fault) p q = (time_fault anchor h ≡ Some fault) × (q ≡ p)
 IsLockedFault anchor h (Spent front) p q =
     HasTime anchor h × Unanswered p q × (q.misses ≡ p.misses) × IsFull front q.seen
 
 -- a read that tries once, and then under the lock
 abbrev pub IsReadFault : Anchor → ℕ → ℕ → LockedFault → PassKnown → PassKnown → Type 0
-IsReadFault anchor cpu h (LockedNoTime fault) p q = IsFaultAt anchor h fault × (q ≡ p)
+IsReadFault anchor cpu h (LockedNoTime fault) p q = (time_fault anchor h ≡ Some fault) × (q ≡ p)
 IsReadFault anchor cpu h (Spent front) p q =
     HasTime anchor h × Unanswered p q × Tried cpu true p q × IsFull front q.seen

@@ -1,9 +1,9 @@
 -- A read without the lock, told of the seat.
-use Rattle.std.specs.Prelude.{◌≡◌, ◌⊎◌, ℕ, ◌%◌, ◌<◌, ◌≤◌, false}
+use Rattle.std.specs.Prelude.{◌≡◌, ◌⊎◌, ℕ, ◌%◌, ◌<◌, ◌≤◌, false, Some}
 use Rattle.pvclock_page.specs.declared.page.Page.{Page}
 use Rattle.host_counter.specs.declared.Anchor.{Anchor}
-use Rattle.host_counter.specs.Time.{IsFaultAt}
-use Rattle.board_core.specs.Time.{HasTime}
+use Rattle.host_counter.specs.Time.{time_fault}
+use Rattle.host_counter.specs.Time.{HasTime}
 use Rattle.board_history.specs.History.{version_after, read_of}
 use Rattle.clock_table.specs.declared.view.View.{View}
 use Rattle.clock_table.specs.Steps.{Hears, missed, number_in}
@@ -22,6 +22,6 @@ pub record HasMissed (cpu first second : ℕ) (v w : View) : Type 0 where
   pub update : ((first % 2 ≡ 1) × (second ≡ first)) ⊎ (first < second)
 
 abbrev pub IsTryFault : Anchor → ℕ → ℕ → PageFault → View → View → Type 0
-IsTryFault anchor cpu h (NoTime fault) v w = IsFaultAt anchor h fault × (w ≡ v)
+IsTryFault anchor cpu h (NoTime fault) v w = (time_fault anchor h ≡ Some fault) × (w ≡ v)
 IsTryFault anchor cpu h (Again first second) v w =
     HasTime anchor h × HasMissed cpu first second v w

@@ -21,7 +21,7 @@ ghost use Rattle.clock_table.specs.Steps.{Extends, loud};
 ghost use Rattle.clock_table.specs.Calls.{entry_of};
 ghost use Rattle.shared_board.specs.Asks.{MayAsk, WasAsked};
 ghost use Rattle.shared_board.specs.Passes.{Answered, Unanswered};
-ghost use Rattle.shared_board.specs.Pages.{HadRoom};
+ghost use Rattle.shared_board.specs.Reads.{HadRoom};
 ghost use Rattle.shared_board.specs.Faults.{IsFull};
 ghost use Rattle.shared_board.specs.private.Seats.{
   AreAlike,

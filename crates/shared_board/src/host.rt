@@ -2,8 +2,8 @@
 ghost use Rattle.std.specs.Prelude.{◌≡◌, ◌<◌, ℕ, OnOk, IfErr};
 ghost use Rattle.clk_units.specs.declared.ranges.TheConstants.{RANGE_NS};
 ghost use Rattle.clk_units.specs.Ranges.{IsKhz};
-ghost use Rattle.host_counter.specs.Time.{time_at, IsFaultAt};
-ghost use Rattle.board_core.specs.Time.{HasTime};
+ghost use Rattle.host_counter.specs.Time.{time_at, time_fault};
+ghost use Rattle.host_counter.specs.Time.{HasTime};
 
 use clk_units::RANGE_NS;
 use host_counter::{Anchor, TimeFault};
@@ -35,7 +35,7 @@ impl HostClock {
     #[inline]
     pub fn check(&self, h: u64) -> Result<(), TimeFault>
         ensures time { OnOk result (HasTime self.now.anchor h) }
-        ensures fault { IfErr result (IsFaultAt self.now.anchor h) }
+        ensures fault { IfErr result (λ f. time_fault self.now.anchor h ≡ Some f) }
     {
         if h >= self.anchor.start && h < self.end {
             return Ok(());
@@ -47,7 +47,7 @@ impl HostClock {
     #[inline(never)]
     fn check_by_time(&self, h: u64) -> Result<(), TimeFault>
         ensures time { OnOk result (HasTime self.now.anchor h) }
-        ensures fault { IfErr result (IsFaultAt self.now.anchor h) }
+        ensures fault { IfErr result (λ f. time_fault self.now.anchor h ≡ Some f) }
     {
         match self.anchor.time(h) {
             Ok(_ns) => Ok(()),

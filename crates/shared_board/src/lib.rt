@@ -12,7 +12,7 @@
 //! let (board, passes) = SharedBoard::<N>::new(alloc, blank, state, 2)?;
 //! let asked = Asked { cpu: 0, h: 1_000, access: Access::Step };
 //! board.access(rt, &OpenGate, &mut pass, asked)?                    // by one thread
-//! board.read_clock(rt, &mut pass, 0, 1_000)?                        // by another, with its own pass
+//! board.read(rt, &mut pass, Read::Clock { cpu: 0 }, 1_000)?         // by another, with its own pass
 //! ```
 #![tactic(auto)]
 
@@ -24,6 +24,7 @@ mod known;
 mod lazy;
 mod pass;
 mod pens;
+mod read;
 mod shared;
 mod stop;
 mod tries;
@@ -36,5 +37,6 @@ pub use holding::Holding;
 pub use host::HostClock;
 pub use known::PassKnown;
 pub use pass::Pass;
+pub use read::{Read, ReadReply};
 pub use shared::{PassesOut, SharedBoard, Stopped};
 pub use tries::try_table_on;

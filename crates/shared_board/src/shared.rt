@@ -1,25 +1,15 @@
 //! The board that threads share.
-ghost use Rattle.std.specs.Prelude.{◌≡◌, ◌<◌, ◌≤◌, ◌↔◌, [], IfOk, IfErr, IsErr, vec_len};
+ghost use Rattle.std.specs.Prelude.{◌≡◌, ◌<◌, ◌≤◌, ◌↔◌, false, true, IfOk, IfErr, IsErr, vec_len};
 ghost use Rattle.board_types.specs.Reply.{IsFresh};
-ghost use Rattle.board_types.specs.declared.setup.TheConstants.{HV_FORMAT};
 ghost use Rattle.board_history.specs.Machine.{ratio_in};
 ghost use Rattle.board_history.specs.declared.entry.Entry.TheVariants.{Board};
 ghost use Rattle.shared_board.specs.Asks.{MayAsk, WasAsked};
 ghost use Rattle.shared_board.specs.Passes.{Answered, Refused};
-ghost use Rattle.shared_board.specs.Pages.{
-  HasTriedPage,
-  HasTriedClock,
-  HasLockedPage,
-  HasLockedClock,
-  HasReadPage,
-  HasReadClock,
-};
-ghost use Rattle.shared_board.specs.Hv.{HasTriedHv, HasLockedHv, HasReadHv};
 ghost use Rattle.shared_board.specs.Faults.{IsPageFault, IsLockedFault, IsReadFault};
-ghost use Rattle.shared_board.specs.Reads.{ReadTold};
+ghost use Rattle.shared_board.specs.Reads.{HasTried, HasRead, MayRead, ReadTold, place_in};
 ghost use Rattle.shared_board.specs.Stops.{StopTold, newcomers};
-ghost use Rattle.shared_board.specs.private.Seats.{IsLastRead, HasClamped};
-ghost use Rattle.shared_board.specs.private.Tables.{HasTriedTable, HasLockedTable, HasReadTable};
+ghost use Rattle.shared_board.specs.private.Seats.{IsLastPage, IsLastRead, HasClamped};
+ghost use Rattle.shared_board.specs.private.Tables.{HasReadOnce, HasReadTable, IsAnswered};
 
 use crate::fault::{LockedFault, PageFault};
 use crate::held::Held;
@@ -27,6 +17,7 @@ use crate::holding::Holding;
 use crate::host::HostClock;
 use crate::lazy::LazyBox;
 use crate::pass::Pass;
+use crate::read::{Read, ReadReply};
 use crate::stop::{join_all, new_passes};
 use crate::tries::try_table_on;
 use crate::waiters::Waiters;
@@ -36,7 +27,7 @@ use board_io::Gate;
 use clk_units::NoMemory;
 use clock_table::{Asked, Blank, ClockTable, Name, SeatPlace};
 use crossbeam_utils::CachePadded;
-use hv_page::{HvReply, of_page};
+use hv_page::of_page;
 use pvclock_page::{ClockReply, Page, PageReply};
 use std::alloc::Global;
 use std::hint::spin_loop;
@@ -215,7 +206,7 @@ impl<N: Name> SharedBoard<N> {
     #[inline(always)]
     fn try_table(&self, pass: &mut Pass<N>, index: u8, h: u64) -> Result<Page, PageFault>
         requires index { index ≤ N.state.cpus }
-        ensures { ReadTold N.state h result (HasTriedTable N.state index h)
+        ensures { ReadTold N.state h result (HasReadOnce N.state index h false)
             (IsPageFault N.state.anchor index h) pass.old pass.new }
     {
         try_table_on(&self.table, &self.host, &mut pass.seat, index, h)
@@ -230,7 +221,7 @@ impl<N: Name> SharedBoard<N> {
         h: u64,
     ) -> Result<Page, LockedFault>
         requires index { index ≤ N.state.cpus }
-        ensures { ReadTold N.state h result (HasLockedTable N.state index h)
+        ensures { ReadTold N.state h result (HasReadOnce N.state index h true)
             (IsLockedFault N.state.anchor h) pass.old pass.new }
     {
         if let Err(fault) = self.host.check(h) {
@@ -262,151 +253,67 @@ impl<N: Name> SharedBoard<N> {
         }
     }
 
-    // Inlined, so that a caller who asks for the reading alone moves no page.
-    /// Reads the page of `cpu` at count `h`, without the lock.
+    /// Reads a page, or the clock by it, at count `h`, without the lock.
     #[inline(always)]
-    pub fn try_page(&self, pass: &mut Pass<N>, cpu: u8, h: u64) -> Result<PageReply, PageFault>
-        requires cpu { cpu < N.state.cpus }
-        ensures { ReadTold N.state h result (HasTriedPage N.state cpu h)
-            (IsPageFault N.state.anchor cpu h) pass.old pass.new }
+    pub fn try_read(&self, pass: &mut Pass<N>, what: Read, h: u64) -> Result<ReadReply, PageFault>
+        requires may { MayRead N.state what }
+        ensures { ReadTold N.state h result (HasTried N.state what h)
+            (IsPageFault N.state.anchor (place_in N.state.cpus what) h) pass.old pass.new }
     {
-        match self.try_table(pass, cpu, h) {
-            Ok(page) => Ok(answer_by(self.ratio, &page, h)),
+        match self.try_table(pass, self.place(what), h) {
+            Ok(page) => Ok(self.answer_by_page(pass, what, h, &page)),
             Err(fault) => Err(fault),
         }
     }
 
-    /// Reads the clock by the page of `cpu` at count `h`, without the lock.
-    pub fn try_clock(&self, pass: &mut Pass<N>, cpu: u8, h: u64) -> Result<ClockReply, PageFault>
-        requires cpu { cpu < N.state.cpus }
-        ensures { ReadTold N.state h result (HasTriedClock N.state cpu h)
-            (IsPageFault N.state.anchor cpu h) pass.old pass.new }
-    {
-        match self.try_page(pass, cpu, h) {
-            Ok(read) => Ok(self.clamp(pass, cpu, read)),
-            Err(fault) => Err(fault),
-        }
-    }
-
-    /// Reads the page of `cpu` at count `h`, under the lock.
-    pub fn page_locked<R: Wait>(
-        &self,
-        rt: &R,
-        pass: &mut Pass<N>,
-        cpu: u8,
-        h: u64,
-    ) -> Result<PageReply, LockedFault>
-        requires cpu { cpu < N.state.cpus }
-        ensures { ReadTold N.state h result (HasLockedPage N.state cpu h)
-            (IsLockedFault N.state.anchor h) pass.old pass.new }
-    {
-        match self.table_locked(rt, pass, cpu, h) {
-            Ok(page) => Ok(answer_by(self.ratio, &page, h)),
-            Err(fault) => Err(fault),
-        }
-    }
-
-    /// Reads the clock by the page of `cpu` at count `h`, under the lock.
-    pub fn clock_locked<R: Wait>(
-        &self,
-        rt: &R,
-        pass: &mut Pass<N>,
-        cpu: u8,
-        h: u64,
-    ) -> Result<ClockReply, LockedFault>
-        requires cpu { cpu < N.state.cpus }
-        ensures { ReadTold N.state h result (HasLockedClock N.state cpu h)
-            (IsLockedFault N.state.anchor h) pass.old pass.new }
-    {
-        match self.page_locked(rt, pass, cpu, h) {
-            Ok(read) => Ok(self.clamp(pass, cpu, read)),
-            Err(fault) => Err(fault),
-        }
-    }
-
-    /// Reads the page of `cpu` at count `h`: once without the lock, and under it only where that met an update.
+    /// Reads a page, or the clock by it, at count `h`: once without the lock, and under it only where that met an update.
     #[inline(always)]
-    pub fn read_page<R: Wait>(
+    pub fn read<R: Wait>(
         &self,
         rt: &R,
         pass: &mut Pass<N>,
-        cpu: u8,
+        what: Read,
         h: u64,
-    ) -> Result<PageReply, LockedFault>
-        requires cpu { cpu < N.state.cpus }
-        ensures { ReadTold N.state h result (HasReadPage N.state cpu h)
-            (IsReadFault N.state.anchor cpu h) pass.old pass.new }
+    ) -> Result<ReadReply, LockedFault>
+        requires may { MayRead N.state what }
+        ensures { ReadTold N.state h result (HasRead N.state what h)
+            (IsReadFault N.state.anchor (place_in N.state.cpus what) h) pass.old pass.new }
     {
-        match self.read_table(rt, pass, cpu, h) {
-            Ok(page) => Ok(answer_by(self.ratio, &page, h)),
+        match self.read_table(rt, pass, self.place(what), h) {
+            Ok(page) => Ok(self.answer_by_page(pass, what, h, &page)),
             Err(fault) => Err(fault),
         }
     }
 
-    /// Reads the clock by the page of `cpu` at count `h` in the same way.
+    /// The place of a page in the table.
     #[inline(always)]
-    pub fn read_clock<R: Wait>(
-        &self,
-        rt: &R,
-        pass: &mut Pass<N>,
-        cpu: u8,
-        h: u64,
-    ) -> Result<ClockReply, LockedFault>
-        requires cpu { cpu < N.state.cpus }
-        ensures { ReadTold N.state h result (HasReadClock N.state cpu h)
-            (IsReadFault N.state.anchor cpu h) pass.old pass.new }
+    fn place(&self, what: Read) -> u8
+        requires may { MayRead N.state what }
+        ensures value { result ≡ place_in N.state.cpus what }
+        ensures inside { result ≤ N.state.cpus }
     {
-        match self.read_page(rt, pass, cpu, h) {
-            Ok(read) => Ok(self.clamp(pass, cpu, read)),
-            Err(fault) => Err(fault),
+        match what {
+            Read::Page { cpu } | Read::Clock { cpu } => cpu,
+            Read::Hv => self.cpus,
         }
     }
 
-    /// Reads the reference page of Hyper-V at count `h`, without the lock.
+    /// What a read is answered by the page that the pass has just read.
     #[inline(always)]
-    pub fn try_hv(&self, pass: &mut Pass<N>, h: u64) -> Result<HvReply, PageFault>
-        requires format { HV_FORMAT ≤ N.state.format }
-        ensures { ReadTold N.state h result (HasTriedHv N.state h)
-            (IsPageFault N.state.anchor N.state.cpus h) pass.old pass.new }
+    fn answer_by_page(&self, pass: &mut Pass<N>, what: Read, h: u64, page: &Page) -> ReadReply
+        requires read { IsLastPage what h page.now pass.old }
+        ensures { IsAnswered N.state what h page.now result pass.old pass.new }
     {
-        match self.try_table(pass, self.cpus, h) {
-            Ok(page) => Ok(hv_answer_by(self.ratio, &of_page(&page), h)),
-            Err(fault) => Err(fault),
-        }
-    }
-
-    /// Reads the reference page at count `h`, under the lock.
-    pub fn hv_locked<R: Wait>(
-        &self,
-        rt: &R,
-        pass: &mut Pass<N>,
-        h: u64,
-    ) -> Result<HvReply, LockedFault>
-        requires format { HV_FORMAT ≤ N.state.format }
-        ensures { ReadTold N.state h result (HasLockedHv N.state h)
-            (IsLockedFault N.state.anchor h) pass.old pass.new }
-    {
-        match self.table_locked(rt, pass, self.cpus, h) {
-            Ok(page) => Ok(hv_answer_by(self.ratio, &of_page(&page), h)),
-            Err(fault) => Err(fault),
-        }
-    }
-
-    /// Reads the reference page at count `h`: once without the lock, and under it only where that met an update.
-    #[inline(always)]
-    pub fn read_hv<R: Wait>(
-        &self,
-        rt: &R,
-        pass: &mut Pass<N>,
-        h: u64,
-    ) -> Result<HvReply, LockedFault>
-        requires format { HV_FORMAT ≤ N.state.format }
-        ensures { ReadTold N.state h result (HasReadHv N.state h)
-            (IsReadFault N.state.anchor N.state.cpus h) pass.old pass.new }
-    {
-        match self.read_table(rt, pass, self.cpus, h) {
-            Ok(page) => Ok(hv_answer_by(self.ratio, &of_page(&page), h)),
-            Err(fault) => Err(fault),
+        match what {
+            Read::Page { .. } => ReadReply::Page {
+                reply: answer_by(self.ratio, page, h),
+            },
+            Read::Clock { cpu } => ReadReply::Clock {
+                reply: self.clamp(pass, cpu, answer_by(self.ratio, page, h)),
+            },
+            Read::Hv => ReadReply::Hv {
+                reply: hv_answer_by(self.ratio, &of_page(page), h),
+            },
         }
     }
 

@@ -1,6 +1,6 @@
 //! Reads without the lock.
 ghost use Rattle.std.specs.Prelude.{◌<◌, ◌≤◌, IfOk, IfErr, OnOk};
-ghost use Rattle.board_core.specs.Time.{HasTime};
+ghost use Rattle.host_counter.specs.Time.{HasTime};
 ghost use Rattle.clock_table.specs.Calls.{IsPass};
 ghost use Rattle.shared_board.specs.Tries.{HasHeard, HasMissed, IsTryFault};
 

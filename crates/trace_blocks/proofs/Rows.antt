@@ -1,5 +1,8 @@
--- Small rows that pin the definitions: what a record and the end of a phase print, and the board that an end leaves.
-use Rattle.std.proofs.Common.{◌≡◌, List, [], ◌∷◌, true, false, None, Some, map, pos, refl}
+-- Small rows that pin the definitions: what a record and the end of a phase print, the board that an end leaves, and why
+-- one is refused.
+use Rattle.std.proofs.Common.{◌≡◌, ℕ, ◌^◌, ◌+◌, List, [], ◌∷◌, true, false, None, Some, map, pos, refl}
+use Rattle.host_counter.specs.Time.{time_at}
+use Rattle.host_counter.specs.declared.TimeFault.TheVariants.{BeforeStart, OutOfRange}
 use Rattle.std.specs.Prelude.{codes}
 use Rattle.std.specs.Fmt.{digits}
 use Rattle.pvclock_page.specs.declared.page.Page.{Page}
@@ -9,12 +12,18 @@ use Rattle.hv_page.specs.declared.page.HvReply.TheVariants.{Off as HvOff}
 use Rattle.board_types.specs.declared.access.Access.TheVariants.{Step}
 use Rattle.board_types.specs.declared.parts.BoardParts.{BoardParts}
 use Rattle.board_types.specs.declared.reply.Value.TheVariants.{Byte}
+use Rattle.board_meters.specs.Meters.{refusal_in, spent_in, move_fault_in}
+use Rattle.board_meters.specs.declared.meters.Meters.{Meters}
+use Rattle.board_meters.specs.declared.meters.MoveFault.TheVariants.{VersionsSpent as PageSpent}
 use Rattle.board_core.specs.Access.{after_access}
 use Rattle.reply_text.specs.Words.{hex_text}
 use Rattle.reply_text.specs.Text.{edge_text, msg_text, value_text, page_text, clock_text, hv_text}
+use Rattle.reply_text.specs.declared.ends.Reason.TheVariants.{CounterFell}
+use Rattle.reply_text.specs.declared.ends.Refused.TheVariants.{Invalid, Range, Versions, Spent}
 use Rattle.transfer.specs.Move.{moved_to}
 use Rattle.trace_blocks.specs.Blocks.{block_of, delivery_of, delivery_to, message_to}
 use Rattle.trace_blocks.specs.Ends.{next_board}
+use Rattle.trace_blocks.specs.Refusals.{refused_fault, refused_move, move_refusal}
 use Rattle.trace_blocks.specs.declared.deliveries.Deliveries.{Deliveries}
 use Rattle.trace_blocks.specs.declared.ends.End.{End}
 use Rattle.trace_blocks.specs.declared.ends.End.TheVariants.{Finish, Save, Move}
@@ -86,3 +95,29 @@ ends = Finish ∷ Save 9 1 100 ∷ Move 9 1 100 (record { khz = 3000000; start =
 next_boards : (b : BoardParts) → map (λ e. next_board e b) ends
     ≡ b ∷ after_access b 1 100 Step ∷ moved_to 3000000 500 40 (after_access b 1 100 Step) ∷ []
 next_boards b = refl
+
+-- the words of a refusal: a count before the anchor's fell, a later one is out of range; and the page of a move isn't named
+a_count_without_a_time : map refused_fault (BeforeStart 10 ∷ OutOfRange 7 ∷ []) ≡ Invalid (CounterFell 10) ∷ Range 7 ∷ []
+a_count_without_a_time = refl
+
+a_page_at_its_last_version : refused_move (PageSpent 1 4294967294) ≡ Versions 4294967294
+a_page_at_its_last_version = refl
+
+-- a move is refused by its access first, then by the time after its gap, then by the version of a page
+at_its_last_version : ℕ → Meters
+at_its_last_version accesses = record {
+  format = 4;
+  cpus = 2;
+  anchor = record { khz = 1000000; start = 100; base_ns = 5000 };
+  host = 200;
+  accesses = accesses;
+  wall_version = 0;
+  hv_version = 0;
+  versions = 6 ∷ 4294967294 ∷ [];
+}
+
+a_move : move_refusal (at_its_last_version (2 ^ 62)) 0 200 (2 ^ 59) ∷ move_refusal (at_its_last_version 0) 0 200 (2 ^ 59)
+    ∷ move_refusal (at_its_last_version 0) 0 200 0 ∷ []
+    ≡ Some (Spent (2 ^ 62)) ∷ Some (Range (2 ^ 59 + 5100)) ∷ Some (Versions 4294967294) ∷ []
+unfolding refusal_in move_fault_in spent_in time_at at_its_last_version
+a_move = refl

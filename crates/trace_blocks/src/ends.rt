@@ -3,15 +3,15 @@ ghost use Rattle.std.specs.Prelude.{◌≡◌, ◌<◌, ◌++◌, Some, None, If
 ghost use Rattle.std.specs.Option.{option_map};
 ghost use Rattle.std.specs.Io.{StartsWith};
 ghost use Rattle.clk_units.specs.Ranges.{IsKhz};
+ghost use Rattle.board_core.specs.Refusals.{meters_of};
 ghost use Rattle.transfer.specs.Move.{move_fault, moved_to};
 ghost use Rattle.trace_blocks.specs.declared.ends.End.TheVariants.{Move};
-ghost use Rattle.trace_blocks.specs.declared.faults.Cause.TheVariants.{Move as ByMove};
 ghost use Rattle.trace_blocks.specs.Blocks.{edges_text, messages_text};
-ghost use Rattle.trace_blocks.specs.Ends.{at_line};
+ghost use Rattle.trace_blocks.specs.Refusals.{refused_move};
 ghost use Rattle.trace_blocks.specs.Ends.{
   IsEnd,
   next_board,
-  end_fault,
+  end_refusal,
   save_block,
   move_block,
   end_text,
@@ -19,10 +19,10 @@ ghost use Rattle.trace_blocks.specs.Ends.{
 
 use crate::blocks::event_lines;
 use crate::deliveries::{Deliveries, edge_lines, message_lines};
-use crate::faults::{Cause, Fault};
+use crate::refusals::{refused_access, refused_move};
 use board_core::{Access, BoardState, Reply};
 use clk_units::NoMemory;
-use reply_text::{move_line, save_line};
+use reply_text::{Refused, move_line, save_line};
 use save_state::encode;
 use transfer::{Moved, moved};
 
@@ -66,9 +66,9 @@ pub fn end_phase(
     board: &mut BoardState,
     deliveries: &Deliveries,
     out: &mut Vec<u8>,
-) -> Result<Option<Fault>, NoMemory>
+) -> Result<Option<Refused>, NoMemory>
     requires end { IsEnd board.old.cpus end.now }
-    ensures fault { IfOk result (λ f. f ≡ end_fault board.old end.now) }
+    ensures cause { IfOk result (λ f. f ≡ end_refusal (meters_of board.old) end.now) }
     ensures board { IfOk result (λ f. IfNone f (board.new ≡ next_board end.now board.old)) }
     ensures text { IfOk result (λ f. IfNone f (out.new.items
         ≡ out.old.items ++ end_text deliveries.now end.now board.old)) }
@@ -83,7 +83,7 @@ pub fn end_phase(
                 save(line, &reply, board, deliveries, out)?;
                 Ok(None)
             }
-            Err(refusal) => Ok(refused(line, Cause::Access { refusal })),
+            Err(refusal) => Ok(Some(refused_access(refusal))),
         },
         End::Move { line, cpu, h, host } => move_board(line, cpu, h, host, board, deliveries, out),
     }
@@ -99,9 +99,9 @@ fn move_board(
     board: &mut BoardState,
     deliveries: &Deliveries,
     out: &mut Vec<u8>,
-) -> Result<Option<Fault>, NoMemory>
+) -> Result<Option<Refused>, NoMemory>
     requires end { IsEnd board.old.cpus (Move line cpu h host) }
-    ensures fault { IfOk result (λ f. f ≡ end_fault board.old (Move line cpu h host)) }
+    ensures cause { IfOk result (λ f. f ≡ end_refusal (meters_of board.old) (Move line cpu h host)) }
     ensures board { IfOk result
         (λ f. IfNone f (board.new ≡ next_board (Move line cpu h host) board.old)) }
     ensures text { IfOk result (λ f. IfNone f (out.new.items
@@ -113,15 +113,8 @@ fn move_board(
     let mut stepped = *board;
     match stepped.access(cpu, h, Access::Step) {
         Ok(reply) => cross_gap(line, &reply, host, &stepped, board, deliveries, out),
-        Err(refusal) => Ok(refused(line, Cause::Access { refusal })),
+        Err(refusal) => Ok(Some(refused_access(refusal))),
     }
-}
-
-/// A line that is refused.
-fn refused(line: u64, cause: Cause) -> Option<Fault>
-    ensures { result ≡ at_line line (Some cause) }
-{
-    Some(Fault { line, cause })
 }
 
 /// Appends the block of a save, whose access gave this reply.
@@ -150,10 +143,10 @@ fn cross_gap(
     board: &mut BoardState,
     deliveries: &Deliveries,
     out: &mut Vec<u8>,
-) -> Result<Option<Fault>, NoMemory>
+) -> Result<Option<Refused>, NoMemory>
     requires rate { IsKhz host.khz }
-    ensures fault { IfOk result
-        (λ f. f ≡ at_line line (option_map ByMove (move_fault host.gap stepped.now))) }
+    ensures cause { IfOk result
+        (λ f. f ≡ option_map refused_move (move_fault host.gap stepped.now)) }
     ensures board { IfOk result (λ f. IfNone f
         (board.new ≡ moved_to host.khz host.start host.gap stepped.now)) }
     ensures text { IfOk result (λ f. IfNone f (out.new.items
@@ -170,7 +163,7 @@ fn cross_gap(
             move_line(line, reply.number, board.now(), out)?;
             Ok(None)
         }
-        Err(fault) => Ok(refused(line, Cause::Move { fault })),
+        Err(fault) => Ok(Some(refused_move(fault))),
     }
 }
 

@@ -12,11 +12,11 @@
 mod blocks;
 mod deliveries;
 mod ends;
-mod faults;
 mod records;
+mod refusals;
 
 pub use blocks::access_block;
 pub use deliveries::Deliveries;
 pub use ends::{End, NewHost, end_phase};
-pub use faults::{Cause, Fault};
 pub use records::{Answer, Record};
+pub use refusals::{refused_access, refused_move, refused_time};

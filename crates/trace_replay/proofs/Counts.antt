@@ -1,13 +1,12 @@
 -- Counts with a time and without, as answers to reads; and what an access prints.
-use Rattle.std.proofs.Common.{◌≡◌, ℕ, ◌≤◌, List, ◌++◌, Option, Some, None, Result, Ok, OnOk, OnErr, refl, sym, ap, subst, ◌∙◌}
+use Rattle.std.proofs.Common.{◌≡◌, ℕ, List, ◌++◌, Option, Some, None, Result, Ok, OnOk, OnErr, sym, ap, ◌∙◌}
 use Rattle.std.specs.Option.{option_map}
 use Rattle.std.proofs.Math.Seq.{take-length}
 use Rattle.std.proofs.lemmas.Result.{on_ok_weaker, on_err_weaker}
-use Rattle.std.proofs.lemmas.Bool.{lt-ltb, le-ltb, le-leb, lt-leb}
-use Rattle.clk_units.specs.declared.ranges.TheConstants.{RANGE_NS}
-use Rattle.host_counter.specs.Time.{time_at, IsFaultAt}
+use Rattle.host_counter.proofs.Times.{no_fault-of_time}
+use Rattle.host_counter.specs.Time.{time_fault}
+use Rattle.host_counter.specs.declared.Anchor.{Anchor}
 use Rattle.host_counter.specs.declared.TimeFault.{TimeFault}
-use Rattle.host_counter.specs.declared.TimeFault.TheVariants.{BeforeStart, OutOfRange}
 use Rattle.board_types.specs.declared.access.Access.{Access}
 use Rattle.board_types.specs.declared.parts.BoardParts.{BoardParts}
 use Rattle.board_types.specs.declared.reply.Refusal.{Refusal}
@@ -17,20 +16,16 @@ use Rattle.board_core.specs.Refusals.{refusal_of}
 use Rattle.trace_blocks.specs.declared.deliveries.Deliveries.{Deliveries}
 use Rattle.trace_blocks.specs.Blocks.{block_of}
 use Rattle.trace_blocks.specs.declared.records.Answer.TheVariants.{Acted}
-use Rattle.board_core.specs.Time.{HasTime}
+use Rattle.host_counter.specs.Time.{HasTime}
 use Rattle.clk_units.specs.declared.NoMemory.{NoMemory}
 use Rattle.reply_text.specs.Text.{refused_text}
 use Rattle.reply_text.specs.declared.ends.Refused.{Refused}
-use Rattle.reply_text.specs.declared.ends.Reason.TheVariants.{CounterFell}
-use Rattle.reply_text.specs.declared.ends.Refused.TheVariants.{Invalid, Range}
 use Rattle.trace_records.specs.declared.Call.TheVariants.{Act}
 use Rattle.trace_records.specs.declared.Job.TheVariants.{Ask}
 use Rattle.trace_loop.specs.Progress.{Answer, Goes, Ends}
 use Rattle.trace_loop.specs.Answered.{printed, end_of, state_after, IsAnswered}
+use Rattle.trace_blocks.specs.Refusals.{count_refusal, refused_fault, refused_access}
 use Rattle.trace_replay.specs.Records.{
-  refused_count,
-  refused_fault,
-  refused_access,
   answer_unless,
   job_answer,
   stops,
@@ -41,26 +36,23 @@ use Rattle.trace_replay.specs.declared.status.Verdict.{Verdict}
 use Rattle.trace_replay.specs.declared.status.Verdict.TheVariants.{Stopped}
 
 -- a count with a time isn't refused
-pub counted : (b : BoardParts) (h : ℕ) → HasTime b.anchor h → refused_count b h ≡ None
-unfolding refused_count
-counted b h t = rw (le-ltb h b.anchor.start t.started, lt-leb RANGE_NS (time_at b.anchor h) t.range) refl
+pub counted : (anchor : Anchor) (h : ℕ) → HasTime anchor h → count_refusal anchor h ≡ None
+unfolding count_refusal
+counted anchor h t = ap (λ (o : Option TimeFault). option_map refused_fault o) (no_fault-of_time anchor h t)
 
 -- one without is, by its fault
-pub faulted : (b : BoardParts) (h : ℕ) (fault : TimeFault) → IsFaultAt b.anchor h fault → refused_count b h ≡ Some (refused_fault fault)
-unfolding refused_count
-faulted b h (BeforeStart start) is = rw (lt-ltb h b.anchor.start is.0) (ap (λ (s : ℕ). Some (Invalid (CounterFell s))) (sym is.1))
-faulted b h (OutOfRange ns) is =
-    let late : RANGE_NS ≤ time_at b.anchor h = subst (λ (n : ℕ). RANGE_NS ≤ n) is.2 is.1 in
-    rw (le-ltb h b.anchor.start is.0, le-leb RANGE_NS (time_at b.anchor h) late) (ap (λ (n : ℕ). Some (Range n)) (sym is.2))
+pub faulted : (anchor : Anchor) (h : ℕ) (fault : TimeFault) → time_fault anchor h ≡ Some fault → count_refusal anchor h ≡ Some (refused_fault fault)
+unfolding count_refusal
+faulted anchor h fault is = ap (λ (o : Option TimeFault). option_map refused_fault o) is
 
 -- a read of a board, which is kept elsewhere as the same: at a count with a time it prints its text, and leaves its board
 module _ (text : BoardParts → List ℕ) (changed : BoardParts → BoardParts) (line h : ℕ) (r : Replay) where
   abbrev pub read_of : BoardParts → Answer Replay Verdict
-  read_of b = with_board (answer_unless (refused_count b h) line (text b) (changed b)) r
+  read_of b = with_board (answer_unless (count_refusal b.anchor h) line (text b) (changed b)) r
 
   module _ (b c : BoardParts) (same : b ≡ c) where
     goes : HasTime b.anchor h → read_of c ≡ Goes (text b) (record r { board = changed b })
-    goes t = ap read_of (sym same) ∙ ap (λ (o : Option Refused). with_board (answer_unless o line (text b) (changed b)) r) (counted b h t)
+    goes t = ap read_of (sym same) ∙ ap (λ (o : Option Refused). with_board (answer_unless o line (text b) (changed b)) r) (counted b.anchor h t)
 
     pub read-answered : (after : BoardParts) (out new : List ℕ) (end : Option Verdict) → HasTime b.anchor h → after ≡ changed b
         → new ≡ out ++ text b → end ≡ None → (let done : Result (Unit {0}) NoMemory = Ok tt in
@@ -73,11 +65,11 @@ module _ (text : BoardParts → List ℕ) (changed : BoardParts → BoardParts) 
     }
 
     -- and at one without it is refused
-    stopped : (fault : TimeFault) → IsFaultAt b.anchor h fault → read_of c ≡ Ends (stops line (refused_fault fault))
-    stopped fault is = ap read_of (sym same) ∙ ap (λ (o : Option Refused). with_board (answer_unless o line (text b) (changed b)) r) (faulted b h fault is)
+    stopped : (fault : TimeFault) → time_fault b.anchor h ≡ Some fault → read_of c ≡ Ends (stops line (refused_fault fault))
+    stopped fault is = ap read_of (sym same) ∙ ap (λ (o : Option Refused). with_board (answer_unless o line (text b) (changed b)) r) (faulted b.anchor h fault is)
 
     pub refused-answered : (res : Result (Unit {0}) NoMemory) (fault : TimeFault) (why : Refused) (after : Replay) (out new : List ℕ) (end : Option Verdict)
-        → IsFaultAt b.anchor h fault → why ≡ refused_fault fault → OnOk res (new ≡ out ++ refused_text line why) → OnOk res (end ≡ Some (Stopped line why))
+        → time_fault b.anchor h ≡ Some fault → why ≡ refused_fault fault → OnOk res (new ≡ out ++ refused_text line why) → OnOk res (end ≡ Some (Stopped line why))
         → OnErr res (new ≡ out) → IsAnswered (read_of c) r after out new end res
     refused-answered res fault why after out new end is told text_put ended kept = record {
       printed = on_ok_weaker res (λ e. e ∙ ap (λ (w : Refused). out ++ refused_text line w) told

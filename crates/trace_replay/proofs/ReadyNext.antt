@@ -11,7 +11,6 @@ use Rattle.board_core.proofs.Laws.{after_access-cpus, after_access-format}
 use Rattle.transfer.specs.Move.{moved_to, published_below}
 use Rattle.transfer.proofs.Publishing.{published_below-cpus}
 use Rattle.trace_blocks.specs.declared.deliveries.Deliveries.{Deliveries}
-use Rattle.trace_blocks.specs.declared.faults.Fault.{Fault}
 use Rattle.trace_blocks.specs.declared.ends.End.{End as PhaseEnd}
 use Rattle.trace_blocks.specs.declared.ends.End.TheVariants.{Finish, Save as BySave, Move as ByMove}
 use Rattle.reply_text.specs.declared.ends.Refused.{Refused}
@@ -28,7 +27,7 @@ use Rattle.trace_text.specs.declared.reading.Stage.{Stage}
 use Rattle.trace_text.specs.declared.reading.Stage.TheVariants.{Opening, Heading, Running}
 use Rattle.trace_loop.specs.Progress.{Answer, Goes, Ends}
 use Rattle.trace_loop.specs.Answered.{end_of, state_after, IsAnswered}
-use Rattle.trace_replay.specs.Records.{answer_unless, ended_answer, job_answer}
+use Rattle.trace_replay.specs.Records.{answer_unless, end_answer, job_answer}
 use Rattle.trace_replay.specs.Replay.{item_answer, taken_answer, answer_of, with_board}
 use Rattle.trace_replay.specs.Ready.{IsRound, IsReady}
 use Rattle.trace_replay.specs.declared.replay.Replay.{Replay}
@@ -76,14 +75,13 @@ unfolding moved_to reanchored hv_published_at_host
 moved-format khz start gap b = published-format b khz start gap b.cpus (reanchored khz start gap b)
 
 -- so does what ends a phase
-same_end : (o : Option Fault) (end : PhaseEnd) (ds : Deliveries) (b : BoardParts) → Same b (ended_answer o end ds b)
-same_end (Some fault) end ds b = tt
-same_end None Finish ds b = (refl, refl)
-same_end None (BySave line cpu h) ds b = (after_access-cpus b cpu h Step, after_access-format b cpu h Step)
-same_end None (ByMove line cpu h host) ds b = (
-  moved-cpus host.khz host.start host.gap _ ∙ after_access-cpus b cpu h Step,
-  moved-format host.khz host.start host.gap _ ∙ after_access-format b cpu h Step,
-)
+same_end : (line : ℕ) (end : PhaseEnd) (ds : Deliveries) (b : BoardParts) → Same b (end_answer line end ds b)
+same_end line Finish ds b = (refl, refl)
+same_end line (BySave at cpu h) ds b = same_unless _ line _ b (after_access b cpu h Step) (after_access-cpus b cpu h Step) (after_access-format b cpu h Step)
+same_end line (ByMove at cpu h host) ds b =
+    same_unless _ line _ b (moved_to host.khz host.start host.gap (after_access b cpu h Step))
+    (moved-cpus host.khz host.start host.gap _ ∙ after_access-cpus b cpu h Step)
+    (moved-format host.khz host.start host.gap _ ∙ after_access-format b cpu h Step)
 
 pub same_job : (line cpu h : ℕ) (job : Job) (ds : Deliveries) (b : BoardParts) → Same b (job_answer line cpu h job ds b)
 unfolding after_clock
@@ -91,8 +89,8 @@ same_job line cpu h (Ask (Act a)) ds b = same_unless _ line _ b (after_access b 
 same_job line cpu h (Ask (ReadPage page)) ds b = same_unless _ line _ b b refl refl
 same_job line cpu h (Ask (ReadClock page)) ds b = same_unless _ line _ b (after_clock b page h) refl refl
 same_job line cpu h (Ask ReadHv) ds b = same_unless _ line _ b b refl refl
-same_job line cpu h Save ds b = same_end _ (BySave line cpu h) ds b
-same_job line cpu h (Move khz start gap) ds b = same_end _ (ByMove line cpu h (record { khz = khz; start = start; gap = gap })) ds b
+same_job line cpu h Save ds b = same_end line (BySave line cpu h) ds b
+same_job line cpu h (Move khz start gap) ds b = same_end line (ByMove line cpu h (record { khz = khz; start = start; gap = gap })) ds b
 
 -- after a record
 record_ready : (line : ℕ) (r : Replay) (x : Answer BoardParts Verdict) → r.reading.lines ≡ line → IsRound r.reading.stage r.board → Same r.board x

@@ -1,10 +1,8 @@
 -- Small rows that pin the definitions.
 use Rattle.std.proofs.Common.{◌≡◌, [], ◌∷◌, Some, None, map, replicate, refl}
 use Rattle.reply_text.specs.declared.ends.Reason.TheVariants.{CounterFell}
-use Rattle.transfer.specs.declared.outcome.MoveFault.TheVariants.{VersionsSpent as PageSpent}
-use Rattle.reply_text.specs.declared.ends.Refused.TheVariants.{Invalid, Versions}
+use Rattle.reply_text.specs.declared.ends.Refused.TheVariants.{Invalid}
 use Rattle.trace_replay.specs.Deliveries.{deliveries_of}
-use Rattle.trace_replay.specs.Records.{refused_move}
 use Rattle.trace_replay.specs.Status.{number_of, verdict_status}
 use Rattle.trace_replay.specs.declared.status.Verdict.TheVariants.{Stopped}
 use Rattle.trace_replay.specs.declared.status.Status.TheVariants.{
@@ -13,9 +11,6 @@ use Rattle.trace_replay.specs.declared.status.Status.TheVariants.{
   Spent,
   VersionsSpent,
 }
-
-a_page_at_its_last_version : refused_move (PageSpent 1 4294967294) ≡ Versions 4294967294
-a_page_at_its_last_version = refl
 
 -- no route, no delivery: and one route delivers all lines
 no_route : deliveries_of 2 (replicate 6 None) ≡ record { cpus = 2; lines = replicate 6 None }

@@ -80,17 +80,10 @@ use Rattle.trace_records.specs.declared.Job.TheVariants.{Ask, Save, Move}
 use Rattle.trace_loop.specs.Progress.{limit_of, Answer, Goes, Ends, Progress, opened, told, answered, checked, heard, after_bytes}
 use Rattle.trace_loop.specs.Answered.{printed}
 use Rattle.trace_blocks.specs.Blocks.{edges_text, messages_text, block_of}
-use Rattle.trace_blocks.specs.Ends.{end_fault}
-use Rattle.trace_blocks.specs.declared.faults.Fault.{Fault}
 use Rattle.trace_blocks.specs.declared.records.Answer.TheVariants.{Acted}
 use Rattle.trace_blocks.specs.declared.ends.End.{End as PhaseEnd}
 use Rattle.trace_blocks.specs.declared.ends.End.TheVariants.{Finish, Save as BySave, Move as ByMove}
-use Rattle.trace_replay.specs.Records.{
-  refused_cause,
-  answer_unless,
-  ended_answer,
-  job_answer,
-}
+use Rattle.trace_replay.specs.Records.{answer_unless, end_answer, job_answer}
 use Rattle.trace_replay.specs.Records as records
 use Rattle.trace_replay.specs.Replay.{
   at_start,
@@ -180,29 +173,27 @@ unless_whole : (o : Option Refused) (line : ℕ) (text : List ℕ) (b : BoardPar
 unless_whole (Some why) line text b ends = inr (refused_ends line why)
 unless_whole None line text b ends = inr ends
 
-end_whole : (o : Option Fault) (end : PhaseEnd) (ds : Deliveries) (b : BoardParts) → IsWholeLines (printed (ended_answer o end ds b))
-end_whole (Some fault) end ds b = inr (refused_ends fault.line (refused_cause fault.cause))
-end_whole None Finish ds b = inl refl
-end_whole None (BySave line cpu h) ds b =
+end_whole : (line : ℕ) (end : PhaseEnd) (ds : Deliveries) (b : BoardParts) → IsWholeLines (printed (end_answer line end ds b))
+end_whole line Finish ds b = inl refl
+end_whole line (BySave at cpu h) ds b =
     let reply : Reply = reply_of b cpu h Step in
     let bytes : List ℕ = bytes_of (after_access b cpu h Step) in
-    inr (ends_after (edges_text ds reply.edges ++ messages_text ds reply.bursts) (save_text line reply.number bytes) (save_ends line reply.number bytes))
-end_whole None (ByMove line cpu h host) ds b =
+    unless_whole _ line _ _ (ends_after (edges_text ds reply.edges ++ messages_text ds reply.bursts) (save_text at reply.number bytes) (save_ends at reply.number bytes))
+end_whole line (ByMove at cpu h host) ds b =
     let reply : Reply = reply_of b cpu h Step in
     let c : BoardParts = after_access b cpu h Step in
     let time : ℕ = now_of (moved_to host.khz host.start host.gap c) in
     let edges : List ℕ = edges_text ds reply.edges ++ edges_text ds (run (now_of c) host.gap (devices_in c)).edges in
-    inr (ends_after (edges ++ messages_text ds reply.bursts ++ messages_text ds (gap_bursts host.gap c)) (move_text line reply.number time)
-    (move_ends line reply.number time))
+    unless_whole _ line _ _ (ends_after (edges ++ messages_text ds reply.bursts ++ messages_text ds (gap_bursts host.gap c)) (move_text at reply.number time)
+    (move_ends at reply.number time))
 
 job_whole : (line cpu h : ℕ) (job : Job) (ds : Deliveries) (b : BoardParts) → IsWholeLines (printed (job_answer line cpu h job ds b))
 job_whole line cpu h (Ask (Act a)) ds b = unless_whole _ line _ _ (block_ends ds line (reply_of b cpu h a))
 job_whole line cpu h (Ask (ReadPage page)) ds b = unless_whole _ line _ _ (page_ends line (page_reply b page h))
 job_whole line cpu h (Ask (ReadClock page)) ds b = unless_whole _ line _ _ (clock_ends line (clock_reply b page h))
 job_whole line cpu h (Ask ReadHv) ds b = unless_whole _ line _ _ (hv_ends line (hv_reply b h))
-job_whole line cpu h Save ds b = end_whole (end_fault b (BySave line cpu h)) (BySave line cpu h) ds b
-job_whole line cpu h (Move khz start gap) ds b =
-    let end : PhaseEnd = ByMove line cpu h (record { khz = khz; start = start; gap = gap }) in end_whole (end_fault b end) end ds b
+job_whole line cpu h Save ds b = end_whole line (BySave line cpu h) ds b
+job_whole line cpu h (Move khz start gap) ds b = end_whole line (ByMove line cpu h (record { khz = khz; start = start; gap = gap })) ds b
 
 board_whole : (x : Answer BoardParts Verdict) (r : Replay) → IsWholeLines (printed x) → IsWholeLines (printed (with_board x r))
 board_whole (Goes text b) r whole = whole

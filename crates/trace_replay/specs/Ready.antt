@@ -31,16 +31,16 @@ pub record IsReady (line : ℕ) (r : Replay) : Type 0 where
   pub count : r.reading.lines + 1 ≡ line
   pub round : IsRound r.reading.stage r.board
 
--- the board takes what a record does
-abbrev pub JobSuits : Job → BoardParts → Type 0
-JobSuits (Ask call) b = IsFittingCall b.cpus b.format call
-JobSuits Save b = Unit {0}
-JobSuits (Move khz start gap) b = IsKhz khz
+-- a board of this many processors and this format takes what a record does
+abbrev pub JobSuits : ℕ → ℕ → Job → Type 0
+JobSuits cpus format (Ask call) = IsFittingCall cpus format call
+JobSuits cpus format Save = Unit {0}
+JobSuits cpus format (Move khz start gap) = IsKhz khz
 
 -- and a line
 abbrev pub Suits : Item → BoardParts → Type 0
 Suits Skipped b = Unit {0}
 Suits Part b = Unit {0}
 Suits (Begun header) b = IsBegin header.begin header.routes
-Suits (Next rec) b = (rec.cpu < b.cpus) × JobSuits rec.job b
+Suits (Next rec) b = (rec.cpu < b.cpus) × JobSuits b.cpus b.format rec.job
 Suits End b = Unit {0}

@@ -20,6 +20,4 @@ mod status;
 pub use deliveries::deliveries_of;
 pub use replay::{Replay, end, no_routes, opening};
 pub use soak::run_soak;
-pub use status::{
-    Status, Verdict, refused_access, refused_move, refused_time, status_of, stop, verdict_status,
-};
+pub use status::{Status, Verdict, status_of, stop, verdict_status};

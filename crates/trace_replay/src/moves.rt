@@ -7,7 +7,7 @@ ghost use Rattle.trace_replay.specs.Records.{end_answer};
 ghost use Rattle.trace_replay.specs.Replay.{with_board};
 
 use crate::replay::Replay;
-use crate::status::{Verdict, refuse, refused_cause};
+use crate::status::{Verdict, refuse};
 use clk_units::NoMemory;
 use trace_blocks::{End, NewHost, end_phase};
 use trace_text::Record;
@@ -24,7 +24,7 @@ impl Replay {
     ) -> Result<(), NoMemory>
         requires cpu { given.now.cpu < self.old.board.cpus }
         requires open { end.old ≡ None }
-        ensures { let by = end_answer (End.Save line given.now.cpu given.now.h)
+        ensures { let by = end_answer line (End.Save line given.now.cpu given.now.h)
             self.old.deliveries self.old.board in
             IsAnswered (with_board by self.old) self.old self.new
             out.old.items out.new.items end.new result }
@@ -34,7 +34,7 @@ impl Replay {
             cpu: given.cpu,
             h: given.h,
         };
-        self.answer_end(&ending, out, end)
+        self.answer_end(line, &ending, out, end)
     }
 
     /// Answers a move: the board runs to the time of the record, over the gap, and goes on at the new host. A move that
@@ -51,7 +51,7 @@ impl Replay {
         requires cpu { given.now.cpu < self.old.board.cpus }
         requires rate { IsKhz host.khz }
         requires open { end.old ≡ None }
-        ensures { let by = end_answer (End.Move line given.now.cpu given.now.h host)
+        ensures { let by = end_answer line (End.Move line given.now.cpu given.now.h host)
             self.old.deliveries self.old.board in
             IsAnswered (with_board by self.old) self.old self.new
             out.old.items out.new.items end.new result }
@@ -62,25 +62,26 @@ impl Replay {
             h: given.h,
             host,
         };
-        self.answer_end(&ending, out, end)
+        self.answer_end(line, &ending, out, end)
     }
 
     /// Does what ends a phase, or refuses it.
     fn answer_end(
         &mut self,
+        line: u64,
         ending: &End,
         out: &mut Vec<u8>,
         end: &mut Option<Verdict>,
     ) -> Result<(), NoMemory>
         requires fits { IsEnd self.old.board.cpus ending.now }
         requires open { end.old ≡ None }
-        ensures { let by = end_answer ending.now self.old.deliveries self.old.board in
+        ensures { let by = end_answer line ending.now self.old.deliveries self.old.board in
             IsAnswered (with_board by self.old) self.old self.new
             out.old.items out.new.items end.new result }
     {
         match end_phase(ending, self.board.state.state_mut(), &self.deliveries, out)? {
             None => Ok(()),
-            Some(fault) => refuse(fault.line, refused_cause(fault.cause), out, end),
+            Some(why) => refuse(line, why, out, end),
         }
     }
 }

@@ -12,16 +12,17 @@ ghost use Rattle.board_core.specs.Hv.{hv_reply};
 ghost use Rattle.board_core.specs.Refusals.{refusal_of};
 ghost use Rattle.trace_records.specs.Calls.{asking, reading};
 ghost use Rattle.reply_text.specs.Text.{page_text, clock_text, hv_text};
-ghost use Rattle.trace_replay.specs.Records.{refused_count, answer_unless};
+ghost use Rattle.trace_blocks.specs.Refusals.{count_refusal};
+ghost use Rattle.trace_replay.specs.Records.{answer_unless};
 ghost use Rattle.trace_replay.specs.Replay.{record_answer, with_board};
 ghost use Rattle.trace_replay.specs.Ready.{Suits};
 
 use crate::replay::Replay;
-use crate::status::{Verdict, refuse, refused_access, refused_time};
+use crate::status::{Verdict, refuse};
 use board_core::Reply;
 use clk_units::NoMemory;
 use reply_text::{CountedLines, hv_line, page_line};
-use trace_blocks::{Deliveries, NewHost, access_block};
+use trace_blocks::{Deliveries, NewHost, access_block, refused_access, refused_time};
 use trace_text::{Asked, Call, ClockRead, Job, Record};
 
 impl Replay {
@@ -134,7 +135,7 @@ impl Replay {
     ) -> Result<(), NoMemory>
         requires page { page < self.old.board.cpus }
         requires open { end.old ≡ None }
-        ensures { let by = answer_unless (refused_count self.old.board h) line
+        ensures { let by = answer_unless (count_refusal self.old.board.anchor h) line
             (page_text line (page_reply self.old.board page h)) self.old.board in
             IsAnswered (with_board by self.old) self.old self.new
             out.old.items out.new.items end.new result }
@@ -178,7 +179,7 @@ impl Replay {
     ) -> Result<(), NoMemory>
         requires page { page < self.old.board.cpus }
         requires open { end.old ≡ None }
-        ensures { let by = answer_unless (refused_count self.old.board h) line
+        ensures { let by = answer_unless (count_refusal self.old.board.anchor h) line
             (clock_text line (clock_reply self.old.board page h))
             (after_clock self.old.board page h) in
             IsAnswered (with_board by self.old) self.old self.new
@@ -205,7 +206,7 @@ impl Replay {
     ) -> Result<(), NoMemory>
         requires format { HV_FORMAT ≤ self.old.board.format }
         requires open { end.old ≡ None }
-        ensures { let by = answer_unless (refused_count self.old.board h) line
+        ensures { let by = answer_unless (count_refusal self.old.board.anchor h) line
             (hv_text line (hv_reply self.old.board h)) self.old.board in
             IsAnswered (with_board by self.old) self.old self.new
             out.old.items out.new.items end.new result }

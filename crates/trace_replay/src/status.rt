@@ -1,23 +1,13 @@
 //! How a run of the program ends.
 ghost use Rattle.std.specs.Prelude.{◌≡◌, ◌++◌, IfOk, OnOk, OnErr};
 ghost use Rattle.reply_text.specs.Text.{refused_text};
-ghost use Rattle.trace_replay.specs.Records.{
-  refused_access,
-  refused_fault,
-  refused_move,
-  refused_cause,
-  stops,
-};
+ghost use Rattle.trace_replay.specs.Records.{stops};
 ghost use Rattle.trace_replay.specs.Status.{status_of, verdict_status};
 ghost use Rattle.trace_replay.specs.private.Closed.{IsClosedBy};
 
-use board_core::Refusal;
 use clk_units::NoMemory;
-use host_counter::TimeFault;
 use reply_text::{Reason, Refused, refused_line};
-use trace_blocks::Cause;
 use trace_loop::Ended;
-use transfer::MoveFault;
 
 /// How a trace ends.
 #[derive(Clone, Copy, Debug, PartialEq, Eq)]
@@ -99,50 +89,6 @@ pub fn status_of(ended: Ended<Verdict>) -> Status
         Ended::SourceFault => Status::SourceFault,
         Ended::SinkFault => Status::SinkFault,
         Ended::NoMemory => Status::NoMemory,
-    }
-}
-
-/// The board's refusal.
-pub fn refused_access(refusal: Refusal) -> Refused
-    ensures { result ≡ refused_access refusal }
-{
-    match refusal {
-        Refusal::NoTime(fault) => refused_time(fault),
-        Refusal::VersionsSpent { version } => Refused::Versions { version },
-        Refusal::Spent { number } => Refused::Spent { number },
-    }
-}
-
-/// A count that has no time. One before the anchor's fell below it.
-pub fn refused_time(fault: TimeFault) -> Refused
-    ensures { result ≡ refused_fault fault }
-{
-    match fault {
-        TimeFault::BeforeStart { start } => {
-            Refused::Invalid(Reason::CounterFell { before: start })
-        }
-        TimeFault::OutOfRange { ns } => Refused::Range { ns },
-    }
-}
-
-/// A move that is refused, as it is printed.
-pub fn refused_move(fault: MoveFault) -> Refused
-    ensures { result ≡ refused_move fault }
-{
-    match fault {
-        MoveFault::OutOfRange { ns } => Refused::Range { ns },
-        MoveFault::VersionsSpent { version, .. } => Refused::Versions { version },
-    }
-}
-
-/// A cause, as it is printed.
-pub(crate) fn refused_cause(cause: Cause) -> Refused
-    ensures { result ≡ refused_cause cause }
-{
-    match cause {
-        Cause::Access { refusal } => refused_access(refusal),
-        Cause::Count { fault } => refused_time(fault),
-        Cause::Move { fault } => refused_move(fault),
     }
 }
 

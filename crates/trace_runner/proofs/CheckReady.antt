@@ -72,7 +72,7 @@ record_ready line rec s sound suits next =
     (job_kept line rec rec.job s sound (omega arith) suits.0 suits.1) next none)
 
 -- an item of a trace that goes on suits its board
-job_suits : (job : Job) (body : Body) (b : BoardParts) → body.cpus ≡ b.cpus → body.format ≡ b.format → IsJob body job → JobSuits job b
+job_suits : (job : Job) (body : Body) (b : BoardParts) → body.cpus ≡ b.cpus → body.format ≡ b.format → IsJob body job → JobSuits b.cpus b.format job
 job_suits (Ask call) body b cpus format fits = subst (λ (z : ℕ × ℕ). IsFittingCall z.0 z.1 call) (λ k. (cpus k, format k)) fits
 job_suits Save body b cpus format valid = tt
 job_suits (Move khz start gap) body b cpus format rate = record { slow = rate.0; fast = rate.1 }

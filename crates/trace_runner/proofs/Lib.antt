@@ -4,8 +4,6 @@ pub mod CheckReady
 mod CheckRows
 pub mod Counted
 pub mod FileOrder
-pub mod Fits
-pub mod Greatest
 pub mod Pieces
 pub mod Races
 pub mod Replayed

@@ -1,10 +1,8 @@
 -- The board of a replay, one record or one phase more, and the check that keeps it.
 use Rattle.std.proofs.Common.{◌≡◌, ℕ, ◌+◌, List, [], ◌∷◌, ◌++◌, refl, ap, ◌∙◌}
 use Rattle.board_types.specs.declared.parts.BoardParts.{BoardParts}
-use Rattle.board_core.specs.Pages.{after_clock}
 use Rattle.trace_records.specs.declared.Record.{Record as Written}
 use Rattle.trace_blocks.specs.Ends.{next_board}
-use Rattle.race_phase.specs.Tallies.{TallyParts, IsTally}
 use Rattle.trace_blocks.specs.declared.ends.End.{End}
 use Rattle.trace_records.specs.declared.Call.{Call}
 use Rattle.trace_records.specs.declared.Job.TheVariants.{Ask}
@@ -46,19 +44,3 @@ pub ended : {s now : Checking} → s ≡ now → (end : End) (b : BoardParts) (v
 ended {s} is end b vs rs e f g =
     (λ i. record s { replay = record s.replay { board = e i }; phases = f i; last = g i; taken = s.taken + 1 })
     ∙ ap (λ (t : Checking). with_end end (on_board (next_board end t.replay.board) t)) is
-
--- a tally goes past the greatest clock reading
-pub clock-tally : (b : BoardParts) (t : TallyParts) (page h : ℕ) → IsTally b t → IsTally (after_clock b page h) t
-unfolding after_clock
-clock-tally b t page h x = record {
-  format = x.format;
-  cpus = x.cpus;
-  anchor = x.anchor;
-  host = x.host;
-  accesses = x.accesses;
-  wall_version = x.wall_version;
-  hv_version = x.hv_version;
-  versions = x.versions;
-  places = x.places;
-  own = x.own;
-}

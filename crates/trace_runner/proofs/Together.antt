@@ -68,8 +68,7 @@ use Rattle.trace_loop.specs.Progress.{
 }
 use Rattle.trace_blocks.specs.declared.records.Answer.TheVariants.{Acted}
 use Rattle.trace_blocks.specs.Blocks.{block_of}
-use Rattle.trace_blocks.specs.Ends.{next_board, end_fault, end_text}
-use Rattle.trace_blocks.specs.declared.faults.Fault.{Fault}
+use Rattle.trace_blocks.specs.Ends.{next_board, end_text}
 use Rattle.trace_blocks.specs.declared.ends.End.{End as PhaseEnd}
 use Rattle.trace_blocks.specs.declared.ends.End.TheVariants.{
   Finish,
@@ -100,7 +99,7 @@ use Rattle.trace_runner.specs.Check.{
 }
 use Rattle.trace_runner.specs.Checking.{Checking}
 use Rattle.trace_runner.specs.FileText.{answer_on, records_text, phase_text, phases_text, file_text}
-use Rattle.trace_replay.specs.Records.{stops, answer_unless, ended_answer, job_answer}
+use Rattle.trace_replay.specs.Records.{stops, answer_unless, job_answer}
 use Rattle.trace_replay.specs.Replay.{
   at_start,
   ended,
@@ -267,14 +266,16 @@ module _ (line cpu h : ℕ) (s : Checking) (board : s.replay.board ≡ replayed 
   unless_so call None text c is next = goes_call call text c is next
   unless_so call (Some why) text c is next = tt
 
-  save_so : (o : Option Fault) → So Save (ended_answer o (BySave line cpu h) ds b)
-  save_so None = goes_end (BySave line cpu h) _ _ refl refl
-  save_so (Some fault) = tt
+  save_so : (o : Option Refused) (text : List ℕ) (c : BoardParts) → text ≡ end_text ds (BySave line cpu h) b → c ≡ next_board (BySave line cpu h) b
+      → So Save (answer_unless o line text c)
+  save_so None text c is next = goes_end (BySave line cpu h) text c is next
+  save_so (Some why) text c is next = tt
 
-  move_so : (khz start gap : ℕ) (o : Option Fault)
-      → So (Move khz start gap) (ended_answer o (ByMove line cpu h (record { khz = khz; start = start; gap = gap })) ds b)
-  move_so khz start gap None = goes_end (ByMove line cpu h (record { khz = khz; start = start; gap = gap })) _ _ refl refl
-  move_so khz start gap (Some fault) = tt
+  move_so : (khz start gap : ℕ) (o : Option Refused) (text : List ℕ) (c : BoardParts)
+      → (let end : PhaseEnd = ByMove line cpu h (record { khz = khz; start = start; gap = gap }) in text ≡ end_text ds end b → c ≡ next_board end b
+      → So (Move khz start gap) (answer_unless o line text c))
+  move_so khz start gap None text c is next = goes_end (ByMove line cpu h (record { khz = khz; start = start; gap = gap })) text c is next
+  move_so khz start gap (Some why) text c is next = tt
 
   job_so : (job : Job) → So job (job_answer line cpu h job ds b)
   unfolding block_of
@@ -282,8 +283,8 @@ module _ (line cpu h : ℕ) (s : Checking) (board : s.replay.board ≡ replayed 
   job_so (Ask (ReadPage page)) = unless_so (ReadPage page) _ (page_text line (page_reply b page h)) b refl refl
   job_so (Ask (ReadClock page)) = unless_so (ReadClock page) _ (clock_text line (clock_reply b page h)) (after_clock b page h) refl refl
   job_so (Ask ReadHv) = unless_so ReadHv _ (hv_text line (hv_reply b h)) b refl refl
-  job_so Save = save_so (end_fault b (BySave line cpu h))
-  job_so (Move khz start gap) = move_so khz start gap (end_fault b (ByMove line cpu h (record { khz = khz; start = start; gap = gap })))
+  job_so Save = save_so _ _ _ refl refl
+  job_so (Move khz start gap) = move_so khz start gap _ _ _ refl refl
 
 record_so : (line : ℕ) (rec : Written) (s : Checking) → s.replay.board ≡ replayed s.opening s.phases s.last → IsRunning s.replay.reading.stage
     → Together (record_answer line rec s.replay) (record_checked line rec s) (said s)

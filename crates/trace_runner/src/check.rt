@@ -21,16 +21,11 @@ ghost use Rattle.trace_text.specs.Lines.{
   end_fault as at_end,
 };
 ghost use Rattle.trace_records.specs.Calls.{IsFittingCall};
-ghost use Rattle.trace_blocks.specs.Ends.{IsEnd, next_board, end_fault};
-ghost use Rattle.race_phase.specs.Tallies.{IsTally};
+ghost use Rattle.trace_blocks.specs.Ends.{IsEnd, next_board, end_refusal};
+ghost use Rattle.trace_blocks.specs.Refusals.{call_refusal, job_refusal};
+ghost use Rattle.board_core.specs.Refusals.{meters_of};
 ghost use Rattle.trace_replay.specs.Ready.{Suits};
-ghost use Rattle.trace_runner.specs.Replayed.{
-  board_after_phases,
-  job_after,
-  on_board,
-  refused_call,
-  refused_job,
-};
+ghost use Rattle.trace_runner.specs.Replayed.{board_after_phases, job_after, on_board};
 ghost use Rattle.trace_replay.specs.Replay.{with_header, at_start};
 ghost use Rattle.trace_runner.specs.Sound.{IsSound};
 ghost use Rattle.trace_runner.specs.Check.{
@@ -43,11 +38,11 @@ ghost use Rattle.trace_runner.specs.Check.{
   read_on,
 };
 
-use crate::counting::{admits, count_call, count_end, refused_job};
+use crate::counting::{admits, count_call, count_end, job_refusal};
 use crate::trace::Trace;
-use board_core::BoardState;
+use board_core::{BoardState, Tally};
 use clk_units::NoMemory;
-use race_phase::{Feed, Feeding, Tally, Writer};
+use race_phase::{Feed, Feeding, Writer};
 use reply_text::Refused;
 use std::alloc::Global;
 use std::marker::Model;
@@ -62,13 +57,13 @@ const RECORDS_MAX: u64 = 200_000;
 /// processors' threads. Nothing is printed but a refusal.
 ///
 /// Contracts see in it a replay of these records, with the board that they leave. That board isn't there: it is worked
-/// out from the records, and a tally of its counts says what it refuses.
+/// out from the records, and its meters say what it refuses.
 #[derive(Drop)]
 pub(crate) struct Check<'a, F: Feeding> {
     reading: Reading,
     shows_state: bool,
     deliveries: Deliveries,
-    /// The counts of the board after the records.
+    /// The meters of the board after the records.
     tally: Tally,
     opening: BoardState,
     /// Puts the phases, and the records after the last of them.
@@ -101,6 +96,7 @@ impl<'a, F: Feeding> Model for Check<'a, F> {
 
 impl<'a, F: Feeding> Check<'a, F> {
     /// Before the first line of a trace, at whose end the board's state is shown or not.
+    #[tactic(auto, unfolding(board_core::specs::Refusals::meters_of))]
     pub(crate) fn new(alloc: Global, feed: &'a Feed<F>, shows_state: bool) -> Check<'a, F>
         ensures { result ≡ unchecked (at_start shows_state) }
     {
@@ -109,7 +105,7 @@ impl<'a, F: Feeding> Check<'a, F> {
             reading: Reading::new(),
             shows_state,
             deliveries: no_routes(),
-            tally: Tally::of_board(&board),
+            tally: board.tally(),
             opening: board,
             writer: Writer::new(alloc, feed, board.cpus(), board.format()),
             taken: 0,
@@ -117,12 +113,14 @@ impl<'a, F: Feeding> Check<'a, F> {
     }
 
     /// Keeps a record of the phase, which is answered, and counts it.
+    #[tactic(auto, unfolding(board_core::specs::Refusals::meters_of))]
     #[inline(always)]
     fn push(&mut self, line: u64, given: &Written, call: Call) -> Result<(), NoMemory>
         requires few { self.old.taken < 200000 }
         requires cpu { given.now.cpu < self.old.replay.board.cpus }
         requires fits { IsFittingCall self.old.replay.board.cpus self.old.replay.board.format call }
-        requires free { refused_call given.now.cpu given.now.h call self.old.replay.board ≡ None }
+        requires free { call_refusal (meters_of self.old.replay.board) given.now.cpu given.now.h call
+            ≡ None }
         ensures { OnOk result (self.new ≡ kept line given.now (Job.Ask call)
             (on_board (board_after_phases self.old.replay.board given.now.cpu given.now.h call) self.old)) }
     {
@@ -141,11 +139,12 @@ impl<'a, F: Feeding> Check<'a, F> {
     }
 
     /// Ends the phase by what isn't refused, and counts it.
+    #[tactic(auto, unfolding(board_core::specs::Refusals::meters_of))]
     #[inline(never)]
     fn end_phase(&mut self, end: End) -> Result<(), NoMemory>
         requires few { self.old.taken ≤ 200000 }
         requires fits { IsEnd self.old.replay.board.cpus end }
-        requires free { end_fault self.old.replay.board end ≡ None }
+        requires free { end_refusal (meters_of self.old.replay.board) end ≡ None }
         ensures { OnOk result (self.new
             ≡ with_end end (on_board (next_board end self.old.replay.board) self.old)) }
     {
@@ -162,8 +161,8 @@ impl<'a, F: Feeding> Check<'a, F> {
     pub(crate) fn keep(&mut self, line: u64, given: &Written) -> Result<(), NoMemory>
         requires few { self.old.taken < 200000 }
         requires suits { Suits (Item.Next given.now) self.old.replay.board }
-        requires free { refused_job given.now.cpu given.now.h given.now.job self.old.replay.board
-            ≡ None }
+        requires free { job_refusal (meters_of self.old.replay.board) given.now.cpu given.now.h
+            given.now.job ≡ None }
         ensures { OnOk result (self.new ≡ kept line given.now given.now.job
             (on_board (job_after given.now.cpu given.now.h given.now.job self.old.replay.board)
             self.old)) }
@@ -181,8 +180,8 @@ impl<'a, F: Feeding> Check<'a, F> {
     fn keep_end(&mut self, line: u64, given: &Written) -> Result<(), NoMemory>
         requires few { self.old.taken ≤ 200000 }
         requires fits { IsEnd self.old.replay.board.cpus (end_by line given.now given.now.job) }
-        requires free { end_fault self.old.replay.board (end_by line given.now given.now.job)
-            ≡ None }
+        requires free { end_refusal (meters_of self.old.replay.board)
+            (end_by line given.now given.now.job) ≡ None }
         ensures { let end = end_by line given.now given.now.job in OnOk result (self.new
             ≡ with_end end (on_board (next_board end self.old.replay.board) self.old)) }
     {
@@ -190,22 +189,25 @@ impl<'a, F: Feeding> Check<'a, F> {
     }
 
     /// Whether a record is one that ends no phase, and isn't refused.
+    #[tactic(auto, unfolding(board_core::specs::Refusals::meters_of))]
     #[inline(always)]
     pub(crate) fn admits(&self, given: &Written) -> bool
         requires { Suits (Item.Next given.now) self.now.replay.board }
         ensures { OnTrue result
-            (refused_job given.now.cpu given.now.h given.now.job self.now.replay.board ≡ None) }
+            (job_refusal (meters_of self.now.replay.board) given.now.cpu given.now.h given.now.job
+            ≡ None) }
     {
         admits(&self.tally, given)
     }
 
     /// Why a record is refused.
+    #[tactic(auto, unfolding(board_core::specs::Refusals::meters_of))]
     pub(crate) fn refusal(&self, given: &Written) -> Option<Refused>
         requires { Suits (Item.Next given.now) self.now.replay.board }
         ensures { result
-            ≡ refused_job given.now.cpu given.now.h given.now.job self.now.replay.board }
+            ≡ job_refusal (meters_of self.now.replay.board) given.now.cpu given.now.h given.now.job }
     {
-        refused_job(&self.tally, given)
+        job_refusal(&self.tally, given)
     }
 
     /// Whether there is no room for a record more.
@@ -216,6 +218,7 @@ impl<'a, F: Feeding> Check<'a, F> {
     }
 
     /// The header is whole: the board is made.
+    #[tactic(auto, unfolding(board_core::specs::Refusals::meters_of))]
     pub(crate) fn begin(&mut self, header: &Header) -> Result<(), NoMemory>
         requires { Suits (Item.Begun header.now) self.old.replay.board }
         ensures { OnOk result (self.new ≡ unchecked (with_header header.now self.old.replay)) }
@@ -228,12 +231,13 @@ impl<'a, F: Feeding> Check<'a, F> {
         self.writer.open(&opening, &deliveries)?;
         self.opening = opening;
         self.deliveries = deliveries;
-        self.tally = Tally::of_board(&self.opening);
+        self.tally = self.opening.tally();
         self.taken = 0;
         Ok(())
     }
 
     /// The trace, which was read to its end. The check is then as before its first record.
+    #[tactic(auto, unfolding(board_core::specs::Refusals::meters_of))]
     pub(crate) fn whole(&mut self, alloc: Global) -> Result<Trace<'a, F>, NoMemory>
         requires few { self.old.taken ≤ 200000 }
         requires sound { IsSound self.old }
@@ -241,7 +245,7 @@ impl<'a, F: Feeding> Check<'a, F> {
     {
         self.end_phase(End::Finish)?;
         let written = self.writer.written();
-        self.tally = Tally::of_board(&self.opening);
+        self.tally = self.opening.tally();
         let written = written?;
         let Ok(opening) = Box::new(alloc, self.opening) else {
             return Err(NoMemory);
@@ -302,9 +306,9 @@ impl<'a, F: Feeding> Check<'a, F> {
 #[inline(never)]
 fn recount(tally: &mut Tally, opening: &BoardState) -> Result<(), NoMemory>
     ensures err { IsErr result }
-    ensures after { IsTally opening.now tally.new }
+    ensures after { tally.new ≡ meters_of opening.now }
 {
-    *tally = Tally::of_board(opening);
+    *tally = opening.tally();
     Err(NoMemory)
 }
 

@@ -103,6 +103,7 @@ impl<'a, F: Feeding> Answerer<Checked<'a, F>> for Checker<'a, F> {
 impl<'a, F: Feeding> Check<'a, F> {
     /// Refuses a record where a replay would, or keeps it. A common one is kept here; what ends a phase, or is refused,
     /// is apart, since ends and causes have places that a call clears as it begins.
+    #[tactic(auto, unfolding(board_core::specs::Refusals::meters_of))]
     #[inline(always)]
     fn take(
         &mut self,
@@ -123,6 +124,7 @@ impl<'a, F: Feeding> Check<'a, F> {
     }
 
     /// The same for every record.
+    #[tactic(auto, unfolding(board_core::specs::Refusals::meters_of))]
     #[cold]
     #[inline(never)]
     fn take_slowly(

@@ -1,35 +1,30 @@
-//! What a check counts of the records that it keeps, and why it refuses one: by a tally of the board's counts.
+//! What a check counts of the records that it keeps, and why it refuses one: by the meters of the board.
 ghost use Rattle.std.specs.Prelude.{◌≡◌, ◌<◌, None};
 ghost use Rattle.std.specs.Bool.{OnTrue};
-ghost use Rattle.board_types.specs.declared.parts.BoardParts.{BoardParts};
-ghost use Rattle.board_core.specs.Refusals.{refusal_of};
 ghost use Rattle.trace_records.specs.Calls.{IsFittingCall};
-ghost use Rattle.trace_blocks.specs.Ends.{IsEnd, next_board, end_fault};
-ghost use Rattle.race_phase.specs.Tallies.{IsTally};
-ghost use Rattle.trace_replay.specs.Ready.{Suits};
-ghost use Rattle.trace_text.specs.declared.reading.Item.TheVariants.{Next};
-ghost use Rattle.trace_replay.specs.Records.{refused_count};
-ghost use Rattle.trace_runner.specs.Replayed.{
-  board_after_phases,
-  by_refusal,
-  refused_call,
-  refused_gap,
-  refused_job,
+ghost use Rattle.trace_blocks.specs.Ends.{IsEnd, next_meters, end_refusal};
+ghost use Rattle.trace_blocks.specs.Refusals.{
+  refused_access,
+  count_refusal,
+  call_refusal,
+  move_refusal,
+  job_refusal,
 };
+ghost use Rattle.race_phase.specs.Order.{after_call};
+ghost use Rattle.trace_replay.specs.Ready.{JobSuits};
 
-use board_core::Access;
-use race_phase::Tally;
+use board_core::{Access, Tally};
 use reply_text::Refused;
-use trace_blocks::End;
-use trace_replay::{refused_access, refused_move, refused_time};
+use trace_blocks::{End, refused_access, refused_move, refused_time};
 use trace_text::{Call, Job, Record};
 
-/// Whether a record is one that ends no phase, and each board of these counts takes it. No cause of a refusal is made.
+/// Whether a record is one that ends no phase, and isn't refused. No cause of a refusal is made.
 #[inline(always)]
 pub(crate) fn admits(tally: &Tally, given: &Record) -> bool
-    requires { (b : BoardParts) × IsTally b tally.now × Suits (Next given.now) b }
-    ensures { OnTrue result ((b : BoardParts) → IsTally b tally.now
-        → refused_job given.now.cpu given.now.h given.now.job b ≡ None) }
+    requires cpu { given.now.cpu < tally.now.cpus }
+    requires suits { JobSuits tally.now.cpus tally.now.format given.now.job }
+    ensures { OnTrue result
+        (job_refusal tally.now given.now.cpu given.now.h given.now.job ≡ None) }
 {
     match given.job {
         Job::Ask(call) => admits_call(tally, given.cpu, given.h, call),
@@ -43,8 +38,7 @@ pub(crate) fn admits(tally: &Tally, given: &Record) -> bool
 fn admits_call(tally: &Tally, cpu: u8, h: u64, call: Call) -> bool
     requires cpu { cpu < tally.now.cpus }
     requires fits { IsFittingCall tally.now.cpus tally.now.format call }
-    ensures { OnTrue result ((b : BoardParts) → IsTally b tally.now
-        → refused_call cpu h call b ≡ None) }
+    ensures { OnTrue result (call_refusal tally.now cpu h call ≡ None) }
 {
     match call {
         Call::Act { access } => admits_access(tally, cpu, h, access),
@@ -59,8 +53,7 @@ fn admits_call(tally: &Tally, cpu: u8, h: u64, call: Call) -> bool
 fn admits_access(tally: &Tally, cpu: u8, h: u64, access: Access) -> bool
     requires cpu { cpu < tally.now.cpus }
     requires legal { IsFittingCall tally.now.cpus tally.now.format (Call.Act access) }
-    ensures { OnTrue result ((b : BoardParts) → IsTally b tally.now
-        → by_refusal (refusal_of b cpu h access) ≡ None) }
+    ensures { OnTrue result (call_refusal tally.now cpu h (Call.Act access) ≡ None) }
 {
     match tally.admit(cpu, h, access) {
         Ok(()) => true,
@@ -68,10 +61,11 @@ fn admits_access(tally: &Tally, cpu: u8, h: u64, access: Access) -> bool
     }
 }
 
-/// Whether a read at a count of the host's counter isn't refused.
+/// Whether a reading at a count of the host's counter isn't refused.
 #[inline(always)]
+#[tactic(auto, using(trace_replay::proofs::Counts::counted))]
 fn admits_count(tally: &Tally, h: u64) -> bool
-    ensures { OnTrue result ((b : BoardParts) → IsTally b tally.now → refused_count b h ≡ None) }
+    ensures { OnTrue result (count_refusal tally.now.anchor h ≡ None) }
 {
     match tally.check_count(h) {
         Ok(()) => true,
@@ -79,39 +73,38 @@ fn admits_count(tally: &Tally, h: u64) -> bool
     }
 }
 
-/// Why each board of these counts refuses a record, if it does.
-pub(crate) fn refused_job(tally: &Tally, given: &Record) -> Option<Refused>
-    requires { (b : BoardParts) × IsTally b tally.now × Suits (Next given.now) b }
-    ensures { (b : BoardParts) → IsTally b tally.now
-        → result ≡ refused_job given.now.cpu given.now.h given.now.job b }
+/// Why a record is refused, if it is.
+pub(crate) fn job_refusal(tally: &Tally, given: &Record) -> Option<Refused>
+    requires cpu { given.now.cpu < tally.now.cpus }
+    requires suits { JobSuits tally.now.cpus tally.now.format given.now.job }
+    ensures { result ≡ job_refusal tally.now given.now.cpu given.now.h given.now.job }
 {
     match given.job {
-        Job::Ask(call) => refused_call(tally, given.cpu, given.h, call),
-        Job::Save => refused_by_board(tally, given.cpu, given.h, Access::Step),
-        Job::Move { gap, .. } => refused_gap(tally, given.cpu, given.h, gap),
+        Job::Ask(call) => call_refusal(tally, given.cpu, given.h, call),
+        Job::Save => access_refusal(tally, given.cpu, given.h, Access::Step),
+        Job::Move { gap, .. } => move_refusal(tally, given.cpu, given.h, gap),
     }
 }
 
 /// Why a call is refused.
-fn refused_call(tally: &Tally, cpu: u8, h: u64, call: Call) -> Option<Refused>
+fn call_refusal(tally: &Tally, cpu: u8, h: u64, call: Call) -> Option<Refused>
     requires cpu { cpu < tally.now.cpus }
     requires fits { IsFittingCall tally.now.cpus tally.now.format call }
-    ensures { (b : BoardParts) → IsTally b tally.now → result ≡ refused_call cpu h call b }
+    ensures { result ≡ call_refusal tally.now cpu h call }
 {
     match call {
-        Call::Act { access } => refused_by_board(tally, cpu, h, access),
-        Call::ReadPage { .. } => refused_count(tally, h),
-        Call::ReadClock { .. } => refused_count(tally, h),
-        Call::ReadHv => refused_count(tally, h),
+        Call::Act { access } => access_refusal(tally, cpu, h, access),
+        Call::ReadPage { .. } => count_refusal(tally, h),
+        Call::ReadClock { .. } => count_refusal(tally, h),
+        Call::ReadHv => count_refusal(tally, h),
     }
 }
 
 /// Why an access is refused.
-fn refused_by_board(tally: &Tally, cpu: u8, h: u64, access: Access) -> Option<Refused>
+fn access_refusal(tally: &Tally, cpu: u8, h: u64, access: Access) -> Option<Refused>
     requires cpu { cpu < tally.now.cpus }
     requires legal { IsFittingCall tally.now.cpus tally.now.format (Call.Act access) }
-    ensures { (b : BoardParts) → IsTally b tally.now
-        → result ≡ by_refusal (refusal_of b cpu h access) }
+    ensures { result ≡ call_refusal tally.now cpu h (Call.Act access) }
 {
     match tally.admit(cpu, h, access) {
         Ok(()) => None,
@@ -119,9 +112,10 @@ fn refused_by_board(tally: &Tally, cpu: u8, h: u64, access: Access) -> Option<Re
     }
 }
 
-/// Why a read at a count of the host's counter is refused.
-fn refused_count(tally: &Tally, h: u64) -> Option<Refused>
-    ensures { (b : BoardParts) → IsTally b tally.now → result ≡ refused_count b h }
+/// Why a reading at a count of the host's counter is refused.
+#[tactic(auto, using(trace_replay::proofs::Counts::counted, trace_replay::proofs::Counts::faulted))]
+fn count_refusal(tally: &Tally, h: u64) -> Option<Refused>
+    ensures { result ≡ count_refusal tally.now.anchor h }
 {
     match tally.check_count(h) {
         Ok(()) => None,
@@ -130,10 +124,9 @@ fn refused_count(tally: &Tally, h: u64) -> Option<Refused>
 }
 
 /// Why a move is refused, by the access before it or by its gap.
-fn refused_gap(tally: &Tally, cpu: u8, h: u64, gap: u64) -> Option<Refused>
-    requires cpu { cpu < tally.now.cpus }
-    requires board { (b : BoardParts) × IsTally b tally.now }
-    ensures { (b : BoardParts) → IsTally b tally.now → result ≡ refused_gap cpu h gap b }
+fn move_refusal(tally: &Tally, cpu: u8, h: u64, gap: u64) -> Option<Refused>
+    requires { cpu < tally.now.cpus }
+    ensures { result ≡ move_refusal tally.now cpu h gap }
 {
     let mut tally = *tally;
     match tally.admit(cpu, h, Access::Step) {
@@ -146,15 +139,13 @@ fn refused_gap(tally: &Tally, cpu: u8, h: u64, gap: u64) -> Option<Refused>
     }
 }
 
-/// Counts a call that is answered.
+/// Counts a call that isn't refused.
 #[inline(always)]
 pub(crate) fn count_call(tally: &mut Tally, cpu: u8, h: u64, call: &Call)
     requires cpu { cpu < tally.old.cpus }
     requires fits { IsFittingCall tally.old.cpus tally.old.format call.now }
-    requires free { (b : BoardParts) × IsTally b tally.old
-        × (refused_call cpu h call.now b ≡ None) }
-    ensures { (b : BoardParts) → IsTally b tally.old
-        → IsTally (board_after_phases b cpu h call.now) tally.new }
+    requires free { call_refusal tally.old cpu h call.now ≡ None }
+    ensures { tally.new ≡ after_call tally.old cpu h call.now }
 {
     match *call {
         Call::Act { access } => tally.count(cpu, h, access),
@@ -164,18 +155,18 @@ pub(crate) fn count_call(tally: &mut Tally, cpu: u8, h: u64, call: &Call)
     }
 }
 
-/// Counts what ends a phase.
+/// Counts what ends a phase, and isn't refused.
 pub(crate) fn count_end(tally: &mut Tally, end: End)
     requires fits { IsEnd tally.old.cpus end }
-    requires free { (b : BoardParts) × IsTally b tally.old × (end_fault b end ≡ None) }
-    ensures { (b : BoardParts) → IsTally b tally.old → IsTally (next_board end b) tally.new }
+    requires free { end_refusal tally.old end ≡ None }
+    ensures { tally.new ≡ next_meters end tally.old }
 {
     match end {
         End::Finish => {}
         End::Save { cpu, h, .. } => tally.count(cpu, h, Access::Step),
         End::Move { cpu, h, host, .. } => {
             tally.count(cpu, h, Access::Step);
-            tally.count_move(host)
+            tally.count_move(host.khz, host.start, host.gap)
         }
     }
 }

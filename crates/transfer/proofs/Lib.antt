@@ -1,3 +1,4 @@
 pub mod Publishing
+pub mod Metered
 pub mod GoingOn
 mod Rows

@@ -1,6 +1,5 @@
 -- What a refusal rules out, and what stays while page after page is published.
-use Rattle.std.proofs.Common.{◌≡◌, ℕ, zero, suc, ◌+◌, ◌<◌, ◌≤◌, Bool, true, false, cond, add-one, Option, None, Some, refl, ap, sym, subst, ◌∙◌, arith, inl, inr, leb, if◌then◌else◌}
-use Rattle.std.proofs.lemmas.Bool.{cases_lt, le-leb, lt-leb}
+use Rattle.std.proofs.Common.{◌≡◌, ℕ, zero, suc, ◌+◌, ◌<◌, ◌≤◌, Bool, true, false, cond, add-one, None, refl, ap, sym, subst, ◌∙◌, arith, leb, if◌then◌else◌}
 use Rattle.std.proofs.lemmas.List.{get_or-set_other}
 use Rattle.board_types.specs.declared.parts.BoardParts.{BoardParts}
 use Rattle.board_types.specs.declared.parts.ProcessorParts.{ProcessorParts}
@@ -16,45 +15,11 @@ use Rattle.board_core.specs.Tsc.{no_processor, processor_at, tsc_read}
 use Rattle.board_core.specs.Hv.{hv_in, with_page, hv_published, hv_published_at_host}
 use Rattle.board_core.specs.Pages.{published_at_host}
 use Rattle.board_core.specs.Reanchor.{reanchored}
-use Rattle.transfer.specs.declared.outcome.MoveFault.{MoveFault}
-use Rattle.transfer.specs.declared.outcome.MoveFault.TheVariants.{OutOfRange}
-use Rattle.transfer.specs.Move.{or_spent, spent_below, published_below, tsc_moved, move_fault}
-
-or_spent-none : (f : Option MoveFault) (cpu v : ℕ) → or_spent f cpu v ≡ None → (f ≡ None) × (v < LAST_VERSION)
-or_spent-none (Some f) cpu v e = cc
-or_spent-none None cpu v e = elim (cases_lt v LAST_VERSION) [
-  | inl less ↦ (refl, less)
-  | inr more ↦ let t : leb LAST_VERSION v ≡ true = le-leb LAST_VERSION v more in cc
-]
-
--- without a fault no page below n has the last version
-pub spent_below-none : (b : BoardParts) (n : ℕ) → spent_below b n ≡ None → (k : ℕ) → k < n → (processor_at b k).version < LAST_VERSION
-unfolding spent_below
-spent_below-none b zero e k less = absurd (omega arith)
-spent_below-none b (suc n) e k less =
-    let parts : (spent_below b n ≡ None) × ((processor_at b n).version < LAST_VERSION) = or_spent-none (spent_below b n) n (processor_at b n).version e in
-    elim (cases_lt k n) [
-      | inl below ↦ spent_below-none b n parts.0 k below
-      | inr above ↦ let same : n ≡ k = omega arith in subst (λ (j : ℕ). (processor_at b j).version < LAST_VERSION) same parts.1
-    ]
-
--- one more page that isn't at its last version
-pub spent_below-more : (b : BoardParts) (n : ℕ) → spent_below b n ≡ None → or_spent None n (processor_at b n).version ≡ None → spent_below b (n + 1) ≡ None
-unfolding spent_below
-spent_below-more b n none fresh = rw add-one (ap (λ (f : Option MoveFault). or_spent f n (processor_at b n).version) none ∙ fresh)
-
--- the first page at its last version is told, however many there are
-pub spent_below-is : (b : BoardParts) (n m : ℕ) (fault : MoveFault) → spent_below b n ≡ None → n < m → or_spent None n (processor_at b n).version ≡ Some fault
-    → spent_below b m ≡ Some fault
-unfolding spent_below
-spent_below-is b n zero fault none less here = absurd (omega arith)
-spent_below-is b n (suc j) fault none less here = elim (cases_lt n j) [
-  | inl below ↦ ap (λ (f : Option MoveFault). or_spent f j (processor_at b j).version) (spent_below-is b n j fault none below here)
-  | inr above ↦
-      let same : n ≡ j = omega arith in
-      let first : spent_below b (suc n) ≡ Some fault = ap (λ (f : Option MoveFault). or_spent f n (processor_at b n).version) none ∙ here in
-      subst (λ (i : ℕ). spent_below b (suc i) ≡ Some fault) same first
-]
+use Rattle.board_meters.specs.declared.meters.Meters.{Meters}
+use Rattle.board_meters.proofs.Moves.{spent_in-none, move_fault-none as none_in}
+use Rattle.board_core.specs.Refusals.{meters_of}
+use Rattle.board_core.proofs.Metered.{version_of}
+use Rattle.transfer.specs.Move.{published_below, tsc_moved, move_fault}
 
 -- publishing keeps how many processors there are
 pub published_below-cpus : (b : BoardParts) (khz start gap n : ℕ) (m : BoardParts) → (published_below b khz start gap n m).cpus ≡ m.cpus
@@ -107,17 +72,12 @@ hv-version b = by (leb HV_FORMAT b.format) (bit 0 b.hv.number)
 
 -- what no refusal means
 pub move_fault-none : (gap : ℕ) (b : BoardParts) → move_fault gap b ≡ None
-    → (now_of b + gap < RANGE_NS) × (spent_below b b.cpus ≡ None) × (b.hv.version < LAST_VERSION)
-unfolding move_fault
+    → (now_of b + gap < RANGE_NS) × ((k : ℕ) → k < b.cpus → (processor_at b k).version < LAST_VERSION) × (b.hv.version < LAST_VERSION)
+unfolding meters_of
 move_fault-none gap b e =
-    let pages : Option MoveFault = or_spent (spent_below b b.cpus) b.cpus b.hv.version in
-    elim (cases_lt (now_of b + gap) RANGE_NS) [
-      | inl less ↦
-          let none : pages ≡ None = sym (ap (λ (t : Bool). cond t (Some (OutOfRange (now_of b + gap))) pages) (lt-leb RANGE_NS (now_of b + gap) less)) ∙ e in
-          let both = or_spent-none (spent_below b b.cpus) b.cpus b.hv.version none in (less, both.0, both.1)
-      | inr more ↦ let t : leb RANGE_NS (now_of b + gap) ≡ true = le-leb RANGE_NS (now_of b + gap) more in
-          let some : Some (OutOfRange (now_of b + gap)) ≡ None = sym (ap (λ (t : Bool). cond t (Some (OutOfRange (now_of b + gap))) pages) t) ∙ e in cc
-    ]
+    let m : Meters = meters_of b in
+    let none = none_in gap m e in
+    (none.0, (λ k less. subst (λ (n : ℕ). n < LAST_VERSION) (version_of b.processors k) (spent_in-none m.versions m.cpus none.1 k less)), none.2)
 
 -- while pages below n are published, the processors that are left have pages that can be
 module _ (b : BoardParts) (khz start gap : ℕ) (m board : BoardParts) (n : ℕ) (at_first : m ≡ reanchored khz start gap b)
@@ -129,13 +89,13 @@ module _ (b : BoardParts) (khz start gap : ℕ) (m board : BoardParts) (n : ℕ)
       ∙ reanchored-cpus khz start gap b in
       subst (λ (c : ℕ). n < c) (sym same) less
 
-  pub is_fresh : spent_below b b.cpus ≡ None → n < b.cpus → (processor_at board n).version < LAST_VERSION
+  pub is_fresh : ((k : ℕ) → k < b.cpus → (processor_at b k).version < LAST_VERSION) → n < b.cpus → (processor_at board n).version < LAST_VERSION
   is_fresh none less =
       let same : processor_at board n ≡ processor_at b n =
       ap (λ (x : BoardParts). processor_at x n) so_far ∙ published_below-later b khz start gap n m n (omega arith)
       ∙ ap (λ (x : BoardParts). processor_at x n) at_first
       ∙ reanchored-processor khz start gap b n in
-      subst (λ (p : ProcessorParts). p.version < LAST_VERSION) (sym same) (spent_below-none b b.cpus none n less)
+      subst (λ (p : ProcessorParts). p.version < LAST_VERSION) (sym same) (none n less)
 
   pub one_more : (new : BoardParts) (tsc : Tsc) → new ≡ published_at_host n tsc 3 board → tsc ≡ tsc_moved b khz start gap n
       → new ≡ published_below b khz start gap (n + 1) m

@@ -14,8 +14,10 @@ use Rattle.hv_page.specs.Time.{units_of}
 use Rattle.board_core.specs.Hv.{hv_published, hv_published_at_host, no_hv}
 use Rattle.board_core.specs.PowerOn.{board_at_power_on}
 use Rattle.board_core.specs.Reanchor.{reanchored}
-use Rattle.transfer.specs.declared.outcome.MoveFault.TheVariants.{OutOfRange, VersionsSpent}
-use Rattle.transfer.specs.Move.{counts_in, tsc_after_gap, tsc_moved, published_below, moved_to, or_spent, spent_below, move_fault}
+use Rattle.board_meters.specs.declared.meters.MoveFault.TheVariants.{OutOfRange, VersionsSpent}
+use Rattle.transfer.specs.Move.{counts_in, tsc_after_gap, tsc_moved, published_below, moved_to, move_fault}
+use Rattle.board_meters.specs.Meters.{or_spent, spent_in, move_fault_in}
+use Rattle.board_core.specs.Refusals.{meters_of}
 
 abbrev setup : Setup
 setup = record {
@@ -96,8 +98,8 @@ abbrev spent_twice : BoardParts
 spent_twice = record board { processors = record first { version = 0xfffffffe } ∷ record first { version = 0xfffffffe } ∷ [] }
 
 -- the first such processor
-first_spent : map (λ b. spent_below b 2) (spent ∷ spent_twice ∷ []) ≡ Some (VersionsSpent 1 0xfffffffe) ∷ Some (VersionsSpent 0 0xfffffffe) ∷ []
-unfolding spent_below
+first_spent : map (λ b. spent_in (meters_of b).versions 2) (spent ∷ spent_twice ∷ []) ≡ Some (VersionsSpent 1 0xfffffffe) ∷ Some (VersionsSpent 0 0xfffffffe) ∷ []
+unfolding spent_in meters_of
 first_spent = refl
 
 -- a board whose reference page is at its last version
@@ -117,7 +119,7 @@ faults : move_fault (2 ^ 59 - 2001) board
     ∷ Some (VersionsSpent 2 0xfffffffe)
     ∷ Some (VersionsSpent 1 0xfffffffe)
     ∷ []
-unfolding move_fault spent_below time_at
+unfolding move_fault_in spent_in meters_of time_at
 faults = refl
 
 -- the reference page is published by the new TSC of its processor, 2000004005 at 1000002000 ns

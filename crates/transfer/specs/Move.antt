@@ -8,14 +8,9 @@ use Rattle.std.specs.Prelude.{
   ◌/◌,
   ◌%◌,
   ◌^◌,
-  nat_le,
-  if◌then◌else◌,
   List,
   Option,
-  Some,
-  None,
 }
-use Rattle.clk_units.specs.declared.ranges.TheConstants.{RANGE_NS}
 use Rattle.irq_edges.specs.declared.bursts.Burst.{Burst}
 use Rattle.hpet_bursts.specs.Bursts.{bursts_of}
 use Rattle.tsc_scale.specs.declared.Tsc.{Tsc}
@@ -23,14 +18,14 @@ use Rattle.tsc_scale.specs.Ratio.{ratio_of}
 use Rattle.tsc_scale.specs.Offset.{tsc_by}
 use Rattle.tsc_scale.specs.Tsc.{difference}
 use Rattle.board_types.specs.declared.parts.BoardParts.{BoardParts}
-use Rattle.board_types.specs.declared.parts.TheConstants.{LAST_VERSION}
 use Rattle.board_core.specs.Time.{now_of}
 use Rattle.board_core.specs.Tsc.{processor_at, tsc_read}
 use Rattle.board_core.specs.Pages.{published_at_host}
 use Rattle.board_core.specs.Hv.{hv_published_at_host}
 use Rattle.board_core.specs.Reanchor.{reanchored}
-use Rattle.transfer.specs.declared.outcome.MoveFault.{MoveFault}
-use Rattle.transfer.specs.declared.outcome.MoveFault.TheVariants.{OutOfRange, VersionsSpent}
+use Rattle.board_meters.specs.declared.meters.MoveFault.{MoveFault}
+use Rattle.board_meters.specs.Meters.{move_fault_in}
+use Rattle.board_core.specs.Refusals.{meters_of}
 
 -- the counts of the guest's TSC in a gap of nanoseconds, rounded down
 abbrev pub counts_in : ℕ → ℕ → ℕ
@@ -71,20 +66,6 @@ moved_to khz start gap b =
 abbrev pub gap_bursts : ℕ → BoardParts → List Burst
 gap_bursts gap b = bursts_of (now_of b) gap b.hpet
 
--- an earlier fault, or else that of a page whose version is the last one
-abbrev pub or_spent : Option MoveFault → ℕ → ℕ → Option MoveFault
-or_spent (Some fault) cpu version = Some fault
-or_spent None cpu version =
-    if nat_le LAST_VERSION version then Some (VersionsSpent cpu version) else None
-
--- the first processor below n whose page has the last version
-unfoldable pub spent_below : BoardParts → ℕ → Option MoveFault
-spent_below b zero = None
-spent_below b (suc n) = or_spent (spent_below b n) n (processor_at b n).version
-
--- why a move is refused, the causes in this order: the new time is `RANGE_NS` or more; a page's
--- version is the last one. The reference page comes after those of the processors, as page `cpus`
-unfoldable pub move_fault : ℕ → BoardParts → Option MoveFault
-move_fault gap b =
-    if nat_le RANGE_NS (now_of b + gap) then Some (OutOfRange (now_of b + gap))
-    else or_spent (spent_below b b.cpus) b.cpus b.hv.version
+-- why a move is refused: by the board's meters
+abbrev pub move_fault : ℕ → BoardParts → Option MoveFault
+move_fault gap b = move_fault_in gap (meters_of b)

@@ -15,5 +15,6 @@
 mod moves;
 mod outcome;
 
-pub use moves::{moved, spent_page};
-pub use outcome::{MoveFault, Moved};
+pub use board_meters::MoveFault;
+pub use moves::moved;
+pub use outcome::Moved;

@@ -2,7 +2,6 @@
 ghost use Rattle.std.specs.Prelude.{
   ◌≡◌,
   ℕ,
-  ◌+◌,
   ◌*◌,
   ◌/◌,
   ◌<◌,
@@ -23,22 +22,12 @@ ghost use Rattle.board_core.specs.Tsc.{processor_at, tsc_read};
 ghost use Rattle.board_core.specs.Conditions.{AreRates};
 ghost use Rattle.clk_units.specs.declared.ranges.TheConstants.{RANGE_NS};
 ghost use Rattle.board_core.specs.Reanchor.{reanchored};
-ghost use Rattle.transfer.specs.Move.{
-  counts_in,
-  offset_for,
-  tsc_after_gap,
-  tsc_moved,
-  published_below,
-  moved_to,
-  gap_bursts,
-  or_spent,
-  spent_below,
-  move_fault,
-};
+ghost use Rattle.transfer.specs.Move.{counts_in, offset_for, tsc_after_gap, tsc_moved, published_below, moved_to, gap_bursts, move_fault};
+ghost use Rattle.board_types.specs.declared.parts.TheConstants.{LAST_VERSION};
 
-use crate::outcome::{MoveFault, Moved};
-use board_core::{BoardParts, BoardState, LAST_VERSION};
-use clk_units::RANGE_NS;
+use crate::outcome::Moved;
+use board_core::{BoardParts, BoardState};
+use board_meters::MoveFault;
 use pvclock_page::{GUEST_STOPPED, TSC_STABLE};
 use tsc_scale::{Tsc, ratio, tsc_by};
 
@@ -65,10 +54,8 @@ pub fn moved(state: &BoardState, khz: u64, start: u64, gap: u64) -> Result<Moved
         → tsc_read m.state.anchor m.state.guest_khz start (processor_at m.state k)
         ≡ tsc_after_gap state.now gap k) }
 {
+    state.tally().admit_move(gap)?;
     let from = state.parts();
-    if let Some(fault) = move_fault(gap, state.now(), &from) {
-        return Err(fault);
-    }
     let mut board = *state;
     let ran = board.reanchor(khz, start, gap);
     publish_all(&mut board, &from, khz, start, gap);
@@ -87,57 +74,12 @@ fn publish_all(board: &mut BoardState, from: &BoardParts, khz: u64, start: u64, 
     requires gap { gap < RANGE_NS }
     requires cpus { from.now.cpus ≤ 64 }
     requires board { board.old ≡ reanchored khz start gap from.now }
-    requires fresh { spent_below from.now from.now.cpus ≡ None }
+    requires fresh { (k : ℕ) → k < from.now.cpus → (processor_at from.now k).version < LAST_VERSION }
     ensures { board.new ≡ published_below from.now khz start gap from.now.cpus board.old }
 {
     for cpu in 0..from.cpus {
         let tsc = tsc_moved(from, khz, start, gap, cpu);
         board.publish(cpu, tsc, MOVED_FLAGS);
-    }
-}
-
-/// Why a move of a board whose time is `now` is refused.
-#[tactic(auto, unfolding(crate::specs::Move::move_fault))]
-fn move_fault(gap: u64, now: u64, from: &BoardParts) -> Option<MoveFault>
-    requires now { now ≡ now_of from.now }
-    requires cpus { from.now.cpus ≤ 64 }
-    ensures { result ≡ move_fault gap from.now }
-{
-    let ns = u128::from(now) + u128::from(gap);
-    if ns >= u128::from(RANGE_NS) {
-        return Some(MoveFault::OutOfRange { ns });
-    }
-    match spent(from) {
-        Some(fault) => Some(fault),
-        None => spent_page(from.cpus, from.hv.version),
-    }
-}
-
-/// The first processor whose page has the last version.
-fn spent(from: &BoardParts) -> Option<MoveFault>
-    requires { from.now.cpus ≤ 64 }
-    ensures { result ≡ spent_below from.now from.now.cpus }
-{
-    for cpu in 0..from.cpus {
-        let version = from.processors[cpu as usize].version;
-        if let Some(fault) = spent_page(cpu, version) {
-            return Some(fault);
-        }
-    }
-    None
-}
-
-/// The fault of page `cpu`, where its version is the last one.
-pub fn spent_page(cpu: u8, version: u32) -> Option<MoveFault>
-    ensures { result ≡ or_spent None cpu version }
-{
-    if version >= LAST_VERSION {
-        Some(MoveFault::VersionsSpent {
-            cpu,
-            version: u64::from(version),
-        })
-    } else {
-        None
     }
 }
 

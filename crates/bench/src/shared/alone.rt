@@ -8,7 +8,7 @@ use board_io::OpenGate;
 use clk_units::NoMemory;
 use clock_table::{Blank, Name};
 use pvclock_page::{Page, PageReply, reading};
-use shared_board::{Asked, Pass, SharedBoard};
+use shared_board::{Asked, Pass, Read, ReadReply, SharedBoard};
 use std::alloc::{AllocError, Global};
 use std::sync::Wait;
 
@@ -164,7 +164,13 @@ fn pages<N: Name>(rt: &impl Wait, board: &SharedBoard<N>, pass: &mut Pass<N>) ->
     let _ = board.access(rt, &OpenGate, pass, ask(0, ENABLE));
     let mut sum = 0u64;
     for h in 0..CALLS {
-        if let Ok(PageReply::On { reading, .. }) = board.try_page(pass, 0, h) {
+        let read = board.try_read(pass, Read::Page { cpu: 0 }, h);
+        if let Ok(
+            ReadReply::Page {
+                reply: PageReply::On { reading, .. },
+            },
+        ) = read
+        {
             sum = sum.wrapping_add(reading);
         }
     }

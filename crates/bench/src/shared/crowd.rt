@@ -6,7 +6,7 @@ use board_core::{Access, BoardState};
 use board_io::OpenGate;
 use clk_units::NoMemory;
 use clock_table::{Blank, Name};
-use shared_board::{Pass, SharedBoard};
+use shared_board::{Pass, Read, SharedBoard};
 use std::alloc::{AllocError, Global};
 use std::io;
 use std::rt::Clock;
@@ -123,7 +123,10 @@ fn reads<N: Name>(rt: &impl Wait, board: &SharedBoard<N>, mut pass: Pass<N>) -> 
 {
     let mut read = 0u64;
     for _ in 0..CALLS {
-        if board.read_page(rt, &mut pass, 0, MOST).is_ok() {
+        if board
+            .read(rt, &mut pass, Read::Page { cpu: 0 }, MOST)
+            .is_ok()
+        {
             read = read.saturating_add(1);
         }
     }

@@ -12,8 +12,10 @@ use Rattle.board_types.specs.declared.parts.TheConstants.{LAST_VERSION, MOST_ACC
 use Rattle.board_types.specs.declared.reply.Value.{Value}
 use Rattle.board_core.specs.Access.{ran_to, bursts_to, after_run, value_at, own_edges}
 use Rattle.board_core.specs.Apics.{apics_in, tscs_by_time}
-use Rattle.board_core.specs.Refusals.{raised_version}
-use Rattle.board_core.specs.Time.{HasTime, now_of, time_of_access}
+use Rattle.board_core.specs.Refusals.{meters_of}
+use Rattle.board_meters.specs.Meters.{raised_in}
+use Rattle.board_core.specs.Time.{now_of, time_of_access}
+use Rattle.host_counter.specs.Time.{HasTime}
 
 -- a run may be done to the time `end` of an access at count h: six places are free for its edges, and
 -- the list has no messages yet
@@ -43,8 +45,7 @@ pub record IsTaken (b : BoardParts) (processor h : ℕ) (a : Access) : Type 0 wh
   pub legal : IsTrue (is_legal b.cpus b.format a)
   pub time : HasTime b.anchor h
   pub accesses : b.accesses < MOST_ACCESSES
-  pub version : IfSome (raised_version b.processors b.wall_version b.hv.version processor a)
-      (λ version. version < LAST_VERSION)
+  pub version : IfSome (raised_in (meters_of b) processor a) (λ version. version < LAST_VERSION)
 
 -- what it reads of such a board, and its own edges after those that the list had
 pub record HasTold (b : BoardParts) (cpu h : ℕ) (a : Access) (read : Value) (had told : List Edge)

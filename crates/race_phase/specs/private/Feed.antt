@@ -10,9 +10,10 @@ use Rattle.race_phase.specs.Parts.{phases_in, open_in}
 use Rattle.race_phase.specs.declared.phase.Gathered.{Gathered}
 use Rattle.race_phase.specs.declared.work.Worked.{Worked}
 use Rattle.shared_board.specs.Passes.{mine}
-use Rattle.race_phase.specs.Order.{after_records, records_fault}
-use Rattle.race_phase.specs.Phases.{IsPhase, phase_fault}
-use Rattle.race_phase.specs.private.Ran.{AreAlike, PhaseRan, PhaseTold}
+use Rattle.race_phase.specs.Order.{after_records, records_refusal}
+use Rattle.race_phase.specs.Phases.{IsPhase, phase_refusal}
+use Rattle.board_core.specs.Refusals.{meters_of}
+use Rattle.race_phase.specs.private.Ran.{PhaseRan, PhaseTold}
 use Rattle.race_phase.specs.private.Workers.{AllWorked, HasWorked}
 
 -- the board that a phase left, or the first one
@@ -67,8 +68,9 @@ pub record PhaseRun (s : BoardParts) (ds : Deliveries) (ps : List Part) (end : E
     (mid : BoardParts) (out : List ℕ) : Type 0 where
   pub v : Phase
   pub phase : ArePhase s ps end v
-  pub told : records_fault s v.records ≡ None → PhaseTold s ds v.records mid out
-  pub alike : records_fault s v.records ≡ None → AreAlike (after_records s v.records) mid
+  pub told : records_refusal (meters_of s) v.records ≡ None → PhaseTold s ds v.records mid out
+  pub alike : records_refusal (meters_of s) v.records ≡ None
+      → after_records (meters_of s) v.records ≡ meters_of mid
 
 -- a phase that was run after a text: it is one that these parts make, and it was run as a race runs
 -- it if it isn't refused
@@ -76,6 +78,4 @@ pub record PhaseHasEnded (s : BoardParts) (ds : Deliveries) (ps : List Part) (en
     (next : BoardParts) (old new : List ℕ) : Type 0 where
   pub v : Phase
   pub phase : ArePhase s ps end v
-  pub cpus : next.cpus ≡ s.cpus
-  pub format : next.format ≡ s.format
-  pub ran : phase_fault s v ≡ None → PhaseRan ds s v next old new
+  pub ran : phase_refusal (meters_of s) v ≡ None → PhaseRan ds s v next old new

@@ -8,7 +8,7 @@ use Rattle.board_history.specs.declared.entry.Entry.{Entry}
 use Rattle.race_phase.specs.declared.phases.Phase.{Phase}
 use Rattle.race_phase.specs.Calls.{Shown}
 use Rattle.race_phase.specs.Phases.{after_phase, PhaseEnded}
-use Rattle.race_phase.specs.Tallies.{TallyParts, IsTally}
+use Rattle.board_core.specs.Refusals.{meters_of}
 
 -- there is one legal history, which opens with the opening state and leaves this one. It has the
 -- entries of the records and no others, those of a processor in their order, and this is their text
@@ -21,13 +21,9 @@ pub record PhaseTold (opening : BoardParts) (ds : Deliveries) (rs : List Record)
   pub none_else : (n : ℕ) → opening.cpus ≤ n → entries_of n h ≡ []
   pub shown : Shown opening ds rs h 0 opening.cpus out
 
--- two boards that refuse alike: one tally has the counts of both
-abbrev pub AreAlike : BoardParts → BoardParts → Type 0
-AreAlike b c = (t : TallyParts) × IsTally b t × IsTally c t
-
--- one phase more after a text, with a board that refuses as that of file order does
+-- one phase more after a text, with a board whose meters are those of file order
 abbrev pub PhaseRan : Deliveries → BoardParts → Phase → BoardParts → List ℕ → List ℕ
     → Type 0
 PhaseRan ds s v next old new =
     (first : List ℕ) × (new ≡ old ++ first) × PhaseEnded s ds v next first
-    × AreAlike (after_phase s v) next
+    × (meters_of next ≡ after_phase (meters_of s) v)

@@ -16,6 +16,7 @@ use Rattle.std.specs.Prelude.{
   take,
   All,
   Some,
+  IsSome,
   Result,
   IfOk,
   OnOk,
@@ -25,7 +26,7 @@ use Rattle.trace_blocks.specs.declared.deliveries.Deliveries.{Deliveries}
 use Rattle.board_types.specs.declared.parts.BoardParts.{BoardParts}
 use Rattle.board_types.specs.declared.reply.Refusal.{Refusal}
 use Rattle.board_core.specs.Refusals.{refusal_of}
-use Rattle.board_history.specs.Counts.{HasNoTime}
+use Rattle.host_counter.specs.Time.{time_fault}
 use Rattle.board_history.specs.History.{board_after, IsLegal}
 use Rattle.board_history.specs.declared.entry.Entry.{Entry}
 use Rattle.clock_table.specs.declared.view.Miss.{Miss}
@@ -54,7 +55,7 @@ IsMade s r a p q =
 -- why a record was not answered: the board refused the access; or the count of a read has no time,
 -- or so many pages were read that the front word leaves no room
 abbrev pub IsUnread : BoardParts → ℕ → List Entry → Type 0
-IsUnread s h seen = HasNoTime s.anchor h ⊎ (2 ^ 63 ≤ page_reads seen)
+IsUnread s h seen = IsSome (time_fault s.anchor h) ⊎ (2 ^ 63 ≤ page_reads seen)
 
 abbrev pub CallTrouble : BoardParts → ℕ → ℕ → Call → List Entry → Type 0
 CallTrouble s cpu h (Act a) seen =

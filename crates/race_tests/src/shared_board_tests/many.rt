@@ -8,7 +8,7 @@ use board_core::Access;
 use board_io::Gate;
 use clock_table::Name;
 use pvclock_page::PageReply;
-use shared_board::{Asked, Pass, SharedBoard};
+use shared_board::{Asked, Pass, Read, ReadReply, SharedBoard};
 use std::alloc::{AllocError, Global};
 use std::process::Abort;
 use std::sync::Wait;
@@ -117,7 +117,13 @@ fn faults_read<N: Name>(rt: &impl Wait, board: &SharedBoard<N>, mut pass: Pass<N
     let mut last = 2;
     let mut faults = 0u64;
     for _ in 0..10_000 {
-        if let Ok(PageReply::On { page, .. }) = board.read_page(rt, &mut pass, 0, 20_000) {
+        let read = board.read(rt, &mut pass, Read::Page { cpu: 0 }, 20_000);
+        if let Ok(
+            ReadReply::Page {
+                reply: PageReply::On { page, .. },
+            },
+        ) = read
+        {
             let whole = page.tsc_timestamp / 2 == page.system_time
                 && page.version / 2 == page.system_time.saturating_add(1);
             if !whole || page.version < last {
@@ -213,7 +219,7 @@ fn reads_inside<N: Name>(gate: &Meeting, board: &SharedBoard<N>, mut pass: Pass<
     requires { 0 < N.state.cpus }
 {
     let inside = comes(&gate.inside);
-    let read = board.try_page(&mut pass, 0, 0).is_ok();
+    let read = board.try_read(&mut pass, Read::Page { cpu: 0 }, 0).is_ok();
     gate.read.store(true, Ordering::SeqCst);
     inside && read
 }

@@ -5,7 +5,7 @@ use Rattle.board_types.specs.declared.parts.BoardParts.{BoardParts}
 use Rattle.board_types.specs.Setup.{processors_of}
 use Rattle.board_types.specs.declared.parts.TheConstants.{MOST_ACCESSES}
 use Rattle.board_types.specs.declared.setup.TheConstants.{LAST_FORMAT, SLEW_MAX_NS}
-use Rattle.board_core.specs.Time.{HasTime}
+use Rattle.host_counter.specs.Time.{HasTime}
 
 -- the fields before the 8254 have no fault
 pub record IsHead (b : BoardParts) : Type 0 where

@@ -26,7 +26,9 @@ use Rattle.clock_table.specs.declared.view.Ended.{Ended}
 use Rattle.clock_table.specs.Steps.{GoesOnQuietly, Extends, loud, ended_with}
 use Rattle.clock_table.specs.Calls.{entry_of}
 use Rattle.shared_board.specs.declared.known.PassKnown.{PassKnown}
+use Rattle.shared_board.specs.declared.read.Read.{Read}
 use Rattle.shared_board.specs.Passes.{mine, floor, Made}
+use Rattle.shared_board.specs.Reads.{page_entry}
 use Rattle.std.specs.List.{last_or}
 
 abbrev pub known : ℕ → View → PassKnown
@@ -113,6 +115,11 @@ pub record IsSpentAt (front : ℕ) (v w : View) : Type 0 where
   pub value : front ≡ loud v.seen
   pub full : 2 ^ 63 ≤ front
   pub seat : w ≡ v
+
+-- the last entry of the pass is a read of this page
+abbrev pub IsLastPage : Read → ℕ → Page → PassKnown → Type 0
+IsLastPage what h page p =
+    (locked : Bool) × (last_or None (mine p) ≡ Some (page_entry p.number what h page locked))
 
 -- the last entry of the pass is a read of the page of cpu that was answered so
 pub record IsLastRead (ratio cpu : ℕ) (reply : PageReply) (p : PassKnown) : Type 0 where

@@ -1,6 +1,7 @@
 -- What a check ends with, as it is held, and what a race gives.
 use Rattle.std.specs.Prelude.{◌≡◌, None, IfSome}
-use Rattle.race_phase.specs.Phases.{race_text, trace_fault}
+use Rattle.board_core.specs.Refusals.{meters_of}
+use Rattle.race_phase.specs.Phases.{race_text, trace_refusal}
 use Rattle.race_phase.specs.declared.race.Ran.{Ran}
 use Rattle.trace_runner.specs.Checked.{Checked}
 use Rattle.trace_runner.specs.declared.trace.CheckEnd.{CheckEnd}
@@ -14,5 +15,5 @@ checked_of (CheckEnd.Stopped verdict) = Checked.Stopped verdict
 abbrev pub IsRace : {F : Type 0} → Ran F → Type 0
 IsRace r =
     IfSome r.trace.opened
-    (λ o. trace_fault o.state r.trace.phases ≡ None
+    (λ o. trace_refusal (meters_of o.state) r.trace.phases ≡ None
     → race_text o.deliveries o.state r.trace.phases r.state.value r.text)

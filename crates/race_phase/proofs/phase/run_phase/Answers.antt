@@ -1,5 +1,6 @@
 use Rattle.std.proofs.Common.{◌≡◌, ap, ◌∙◌, sym, subst, refl, length, get_or, ℕ, ◌<◌, arith}
 use Rattle.board_types.specs.declared.parts.BoardParts.{BoardParts}
+use Rattle.board_core.specs.Refusals.{meters_of}
 use Rattle.shared_board.specs.Stops.{StopTold}
 use Rattle.race_phase.specs.private.Feed.{AreFresh}
 use Rattle.race_phase.proofs.Alike.{phase_alike}
@@ -46,7 +47,7 @@ returns g c =
     let len : length c.in_ok-passes.field-0.passes.items ≡ st.cpus = omega arith in
     let stop : StopTold st st.cpus mid c.in_ok-passes.field-0.passes.items =
     subst (λ (k : ℕ). StopTold st k mid c.in_ok-passes.field-0.passes.items) p c.in-Ok-stop.ensures.ok in
-    let sound : IsSound st = subst IsSound c.requires.state
+    let sound : IsSound (meters_of st) = subst (λ (b : BoardParts). IsSound (meters_of b)) c.requires.state
     (sound_of c.args.state.now c.cpus-cpus.ensures.joined c.processors-processors.ensures.places) in
     let many = c.in-Ok.ensures.len in
     let all = c.in_ok-passes.ensures.all ds (λ i d l.
@@ -58,6 +59,6 @@ returns g c =
       phase = all.phase;
       told = λ free. phase_told st mid ds rs c.in_ok-passes.field-0.passes.items text sound len fits.records free fits.few stop all.worked;
       alike = λ free.
-          phase_alike st ds rs mid text sound fits.records
+          phase_alike st ds rs mid text fits.records
           (phase_told st mid ds rs c.in_ok-passes.field-0.passes.items text sound len fits.records free fits.few stop all.worked);
     }

@@ -33,12 +33,10 @@ returns g c =
     let w = c.in_ok-board.field-0 in
     let mid = c.deref_mut.result.now in
     let at = (goal.at.returns g c).After-deref_mut in
-    let format : mid.format ≡ s.format =
-    cc (c.deref-else-cpus.ensures, c.format.ensures, c.if-format.false, c.format-else-cpus.ensures) in
     let last : List ℕ = end_text ds w.end mid in
     let next = c.end_phase.new.board in
     let board : next ≡ next_board w.end mid = rw c.in-None.is at c.in_ok-end_phase.ensures.board in
     let says = rw c.in-None.is at c.in_ok-end_phase.ensures.text in
     let block : c.end_phase.new.out.items ≡ last = says ∙ ap (λ (l : List ℕ). l ++ last) c.new-block.ensures.items in
     let text : c.append.new.self ≡ (c.args.text.now ++ w.text) ++ last = c.in_ok-append.ensures.ok ∙ (λ i. c.in_ok-join.ensures i ++ block i) in
-    phase_has_ended s ds w.taken.items w.end mid w.text (ran g at) (size g at) next last c.args.text.now c.append.new.self format board refl text
+    phase_has_ended s ds w.taken.items w.end mid w.text (ran g at) (size g at) next last c.args.text.now c.append.new.self board refl text

@@ -4,7 +4,8 @@ use Rattle.board_types.specs.declared.parts.BoardParts.{BoardParts}
 use Rattle.race_phase.specs.declared.opening.Opening.{Opening}
 use Rattle.race_phase.specs.declared.piece.Part.{Part}
 use Rattle.race_phase.specs.Parts.{phases_in, open_in}
-use Rattle.race_phase.specs.Phases.{race_text, trace_fault}
+use Rattle.board_core.specs.Refusals.{meters_of}
+use Rattle.race_phase.specs.Phases.{race_text, trace_refusal}
 use Rattle.race_phase.specs.private.Feed.{PhaseHasEnded, board_or}
 use Rattle.race_phase.proofs.Going.{IsGoing, going_end, going_more, going_start, ended_left}
 use Rattle.race_phase.proofs.race.run_race.Given as given
@@ -61,6 +62,6 @@ returns-then-eq g c =
     let o = c.in-Some.opening in
     let board = c.in_ok-ended.ended.board.value in
     let all = c.join_parts.new.taken.items in
-    subst (λ (m : Option Opening). IfSome m (λ z. trace_fault z.state (phases_in [] all) ≡ None
+    subst (λ (m : Option Opening). IfSome m (λ z. trace_refusal (meters_of z.state) (phases_in [] all) ≡ None
     → race_text z.deliveries z.state (phases_in [] all) board c.run_and_end.new.text)) (sym c.loop-phase.invariant.shown)
     (going_end o.deliveries o.state board (phases_in [] all) c.run_and_end.new.text (going g (goal.at.returns-then-eq g c).In_ok-join_parts))

@@ -9,7 +9,8 @@ use Rattle.board_devices.specs.Places.{line_at}
 use Rattle.board_devices.specs.Lines.{levels}
 use Rattle.board_devices.specs.Rises.{lifts}
 use Rattle.board_devices.specs.Run.{Ran, run}
-use Rattle.board_core.specs.Time.{HasTime, now_of, time_of_access}
+use Rattle.board_core.specs.Time.{now_of, time_of_access}
+use Rattle.host_counter.specs.Time.{HasTime}
 use Rattle.board_core.specs.Conditions.{IsFormat, AreRises, AreApics}
 use Rattle.board_core.specs.View.{board_parts_of}
 use Rattle.board_core.proofs.Times.{time_at_max, base-first}

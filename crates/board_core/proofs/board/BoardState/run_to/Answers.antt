@@ -15,7 +15,7 @@ use Rattle.board_core.specs.View.{board_parts_of}
 use Rattle.board_core.proofs.Times.{time_at_max}
 use Rattle.board_core.proofs.Counted.{rises_after-none}
 use Rattle.board_core.proofs.Joined.{IsJoined-same_time, early}
-use Rattle.board_core.specs.Time.{HasTime}
+use Rattle.host_counter.specs.Time.{HasTime}
 use Rattle.board_core.specs.Conditions.{IsJoined}
 use Rattle.board_core.proofs.Steps.{with_run-is}
 use Rattle.board_core.proofs.board.BoardState.run_to.Goals as goal

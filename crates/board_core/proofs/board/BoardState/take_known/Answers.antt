@@ -9,6 +9,7 @@ use Rattle.board_types.specs.declared.access.Access.{Access}
 use Rattle.board_types.specs.declared.parts.BoardParts.{BoardParts}
 use Rattle.board_core.specs.Access.{ran_to, own_edges, after_run, after_act, value_at, edges_of, reply_of, after_access}
 use Rattle.board_core.specs.private.Calls.{IsTaken}
+use Rattle.board_core.specs.Refusals.{meters_of}
 use Rattle.board_core.proofs.OfLines.{of_lines_edges}
 use Rattle.board_core.proofs.Laws.{taken_time, taken_version, taken_accesses, after_access-accesses}
 use Rattle.board_core.proofs.board.BoardState.take_known.Goals as goal
@@ -25,7 +26,7 @@ run_to-looked-requires c = record {
 }
 
 pub act-value-requires-clause-taken : goal.act-value-requires-clause-taken
-unfolding after_run
+unfolding after_run meters_of
 act-value-requires-clause-taken c = subst (λ (b : BoardParts). IsTaken b c.args.cpu c.args.h c.args.a) (sym c.run_to-looked.ensures.ran.state) (record {
   cpu = c.requires.cpu;
   legal = c.requires.legal;

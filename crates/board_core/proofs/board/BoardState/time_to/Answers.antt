@@ -1,6 +1,7 @@
 use Rattle.std.proofs.Common.{ap, subst, ◌∙◌, arith}
 use Rattle.board_types.specs.declared.parts.BoardParts.{BoardParts}
-use Rattle.board_core.specs.Time.{HasTime, time_of_access}
+use Rattle.board_core.specs.Time.{time_of_access}
+use Rattle.host_counter.specs.Time.{HasTime}
 use Rattle.board_core.specs.View.{board_parts_of}
 use Rattle.board_core.proofs.Joined.{early}
 use Rattle.board_core.proofs.board.BoardState.time_to.Goals as goal

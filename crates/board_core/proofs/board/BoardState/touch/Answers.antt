@@ -24,7 +24,7 @@ use Rattle.board_core.specs.Conditions.{IsWall, AreProcessors, IsJoined}
 use Rattle.board_core.specs.View.{board_parts_of}
 use Rattle.board_core.proofs.Steps.{with_parts, with_parts-is}
 use Rattle.irq_edges.specs.Lines.{line_numbers, level_of}
-use Rattle.board_core.specs.Wall.{wall_version_after}
+use Rattle.board_meters.specs.Published.{wall_version_after}
 use Rattle.board_core.specs.Pages.{processors_after}
 use Rattle.board_core.specs.private.Kinds.{writes}
 use Rattle.board_core.proofs.Kept.{touches-quiet, number-kept, version-kept, processors-kept}

@@ -1,15 +1,16 @@
 use Rattle.std.proofs.Common.{IsTrue}
 use Rattle.board_types.specs.Legal.{is_legal}
-use Rattle.board_core.proofs.Legals.{raised-hv}
 use Rattle.board_core.specs.Apics.{apics_in, apics_acted}
 use Rattle.board_core.proofs.Joined.{IsHv-after}
 use Rattle.board_core.proofs.ApicTimers.{AreApics-acted}
 use Rattle.std.proofs.Common.{false, ◌≡◌, ◌+◌, ◌<◌, ◌≤◌, IfSome, ap, sym, subst, ◌∙◌, arith}
 use Rattle.board_types.specs.declared.parts.BoardParts.{BoardParts}
 use Rattle.board_types.specs.declared.parts.TheConstants.{LAST_VERSION, MOST_ACCESSES}
-use Rattle.board_core.specs.Time.{HasTime, devices_in, now_of}
-use Rattle.board_core.specs.Pages.{published_by}
-use Rattle.board_core.specs.Refusals.{raised_version}
+use Rattle.board_core.specs.Time.{devices_in, now_of}
+use Rattle.host_counter.specs.Time.{HasTime}
+use Rattle.board_meters.specs.Published.{published_by}
+use Rattle.board_core.specs.Refusals.{meters_of}
+use Rattle.board_meters.specs.Meters.{raised_in}
 use Rattle.board_core.specs.Access.{before_look}
 use Rattle.board_core.specs.Hv.{hv_after}
 use Rattle.board_core.specs.Conditions.{IsJoined, AreApics}
@@ -19,7 +20,8 @@ use Rattle.board_core.specs.View.{board_parts_of}
 use Rattle.board_core.specs.private.Kinds.{touches}
 use Rattle.board_core.proofs.Kept.{writes-untouched, devices-kept, rises-kept, due-kept, lifts-kept}
 use Rattle.board_core.proofs.Steps.{with_parts, with_parts-is}
-use Rattle.board_core.proofs.Legals.{legal-page, raised-wall, raised-page}
+use Rattle.board_core.proofs.Metered.{raised-wall, raised-hv, raised-pages}
+use Rattle.board_meters.proofs.Publishing.{legal-page}
 use Rattle.board_core.proofs.Joined.{most-cpus, IsWall-after, AreProcessors-after, IsJoined-acted}
 use Rattle.board_core.proofs.board.BoardState.write_for.Goals as goal
 
@@ -31,9 +33,9 @@ untouched : (c : goal.After-act_on_apics) → touches c.args.a ≡ false
 untouched c = writes-untouched c.args.a c.requires.writes
 
 version_is : (c : goal.After-act_on_apics)
-    → IfSome (raised_version c.self.inside.processors c.self.inside.wall_version c.self.inside.hv.version c.args.cpu c.args.a) (λ v. v < LAST_VERSION)
+    → IfSome (raised_in (meters_of (seen c)) c.args.cpu c.args.a) (λ v. v < LAST_VERSION)
 version_is c = subst
-    (λ (b : BoardParts). IfSome (raised_version b.processors b.wall_version b.hv.version c.args.cpu c.args.a) (λ v. v < LAST_VERSION))
+    (λ (b : BoardParts). IfSome (raised_in (meters_of b) c.args.cpu c.args.a) (λ v. v < LAST_VERSION))
     (sym c.self.view_is) c.requires.taken.version
 
 place_is : (c : goal.After-act_on_apics) → IfSome (published_by c.args.cpu c.args.a) (λ k. k < c.self.inside.cpus)
@@ -74,15 +76,15 @@ invariant_of-self c = record {
   time = c.self.invariant.time;
   joined = subst IsJoined (sym (state_is c)) (IsJoined-acted (seen c) c.args.cpu c.args.h c.args.a c.self.invariant.joined few (omega arith)
       (IsWall-after c.args.a c.self.inside.wall_number c.self.inside.wall_version c.self.inside.wall_nsec
-      (raised-wall c.self.inside.processors c.self.inside.wall_version c.self.inside.hv.version c.args.cpu c.args.a (version_is c))
+      (raised-wall (seen c) c.args.cpu c.args.a (version_is c))
       c.self.invariant.joined.wall)
       (AreProcessors-after c.self.inside.anchor c.self.inside.guest_khz c.self.inside.cpus c.args.h c.args.a c.self.inside.processors (omega arith)
       (few_in c)
       c.self.invariant.joined.processors time c.args.cpu (place_is c)
-      (raised-page c.self.inside.processors c.self.inside.wall_version c.self.inside.hv.version c.args.cpu c.args.a (version_is c)))
+      (raised-pages (seen c) c.args.cpu c.args.a (version_is c)))
       (IsHv-after c.self.inside.anchor c.self.inside.format c.self.inside.guest_khz c.self.inside.cpus c.args.cpu c.args.h c.args.a c.self.inside.processors
       c.self.inside.hv c.self.invariant.joined.rates.guest inside legal
-      (raised-hv c.self.inside.processors c.self.inside.wall_version c.self.inside.hv.version c.args.cpu c.args.a (version_is c)) c.self.invariant.joined.hv)
+      (raised-hv (seen c) c.args.cpu c.args.a (version_is c)) c.self.invariant.joined.hv)
       (apics_are c) (due-kept c.args.a (devices_in (seen c)) (untouched c)) (lifts-kept (seen c) c.args.a (untouched c)));
 }
   where
@@ -100,3 +102,16 @@ invariant_of-self c = record {
 
 pub returns-clause-state : goal.returns-clause-state
 returns-clause-state c = state_is c ∙ ap (λ (b : BoardParts). before_look b c.args.cpu c.args.h c.args.a) c.self.view_is
+
+pub hv_after-self-inside-requires-clause-version : goal.hv_after-self-inside-requires-clause-version
+hv_after-self-inside-requires-clause-version c = raised-hv c.args.self.now c.args.cpu c.args.a c.requires.taken.version
+
+pub wall_version_after-self-inside-requires : goal.wall_version_after-self-inside-requires
+wall_version_after-self-inside-requires c =
+    raised-wall (board_parts_of c.self.inside) c.args.cpu c.args.a
+    (subst (λ (b : BoardParts). IfSome (raised_in (meters_of b) c.args.cpu c.args.a) (λ v. v < LAST_VERSION)) (sym c.self.view_is) c.requires.taken.version)
+
+pub publish_by-requires-clause-version : goal.publish_by-requires-clause-version
+publish_by-requires-clause-version c =
+    raised-pages (board_parts_of c.self.inside) c.args.cpu c.args.a
+    (subst (λ (b : BoardParts). IfSome (raised_in (meters_of b) c.args.cpu c.args.a) (λ v. v < LAST_VERSION)) (sym c.self.view_is) c.requires.taken.version)

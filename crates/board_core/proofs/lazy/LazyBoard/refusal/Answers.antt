@@ -3,7 +3,8 @@ use Rattle.std.specs.Prelude.{IsTrue, IsSome}
 use Rattle.board_types.specs.Legal.{is_legal}
 use Rattle.board_types.specs.declared.parts.BoardParts.{BoardParts}
 use Rattle.board_core.specs.Access.{after_run}
-use Rattle.board_core.specs.Refusals.{refusal_of}
+use Rattle.board_core.specs.Refusals.{meters_of, refusal_of}
+use Rattle.board_meters.specs.Meters.{refusal_in}
 use Rattle.board_core.proofs.Joins.{refusal_of-after_run}
 use Rattle.board_core.proofs.lazy.LazyBoard.refusal.Goals as goal
 
@@ -16,7 +17,7 @@ unfolding after_run
 refusal-requires-clause-legal c = subst (λ (b : BoardParts). IsTrue (is_legal b.cpus b.format c.args.a)) (sym c.self.view_is) c.requires.legal
 
 pub refusal-requires-clause-refused : goal.refusal-requires-clause-refused
-unfolding after_run refusal_of
+unfolding after_run refusal_in meters_of
 refusal-requires-clause-refused c = subst (λ (b : BoardParts). IsSome (refusal_of b c.args.cpu c.args.h c.args.a)) (sym c.self.view_is) c.requires.refused
 
 pub returns : goal.returns

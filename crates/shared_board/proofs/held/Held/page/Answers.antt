@@ -4,7 +4,7 @@ use Rattle.clock_table.specs.declared.view.View.{View}
 use Rattle.clock_table.specs.Steps.{pen_right}
 use Rattle.shared_board.specs.declared.known.PassKnown.{PassKnown}
 use Rattle.shared_board.specs.Passes.{Answered, Unanswered}
-use Rattle.shared_board.specs.Pages.{HadRoom}
+use Rattle.shared_board.specs.Reads.{HadRoom}
 use Rattle.shared_board.specs.Faults.{IsFull}
 use Rattle.shared_board.specs.private.Seats.{known}
 use Rattle.shared_board.proofs.Turns.{taken, HasPen, HasTurned, pen_taken, read_turned, read_answered, read_room, read_spent}

@@ -1,8 +1,8 @@
-use Rattle.std.proofs.Common.{subst, IfOk, IfErr, OnOk}
+use Rattle.std.proofs.Common.{false, subst, IfOk, IfErr, OnOk}
 use Rattle.host_counter.specs.declared.Anchor.{Anchor}
-use Rattle.board_core.specs.Time.{HasTime}
+use Rattle.host_counter.specs.Time.{HasTime}
 use Rattle.shared_board.specs.declared.known.PassKnown.{PassKnown}
-use Rattle.shared_board.specs.private.Tables.{HasTriedTable}
+use Rattle.shared_board.specs.private.Tables.{HasReadOnce}
 use Rattle.shared_board.specs.Faults.{IsPageFault}
 use Rattle.shared_board.specs.private.Seats.{known}
 use Rattle.shared_board.proofs.Clocks.{try_faulted}
@@ -19,7 +19,7 @@ returns g c =
     record {
       time = subst (λ (a : Anchor). OnOk c.try_table_on.result (HasTime a c.args.h)) c.args.self.now.clock c.try_table_on.ensures.time;
       ok =
-          subst (λ (z : PassKnown). IfOk c.try_table_on.result (λ r. HasTriedTable g.N.Name.state c.args.index c.args.h r z (known n c.try_table_on.new.seat)))
+          subst (λ (z : PassKnown). IfOk c.try_table_on.result (λ r. HasReadOnce g.N.Name.state c.args.index c.args.h false r z (known n c.try_table_on.new.seat)))
           c.pass.view_is
           (try_answered c.try_table_on.result g.N.Name.state n c.args.index c.args.h c.pass.inside.seat c.try_table_on.new.seat
           c.pass.invariant.0 c.try_table_on.ensures.ok);

@@ -1,6 +1,5 @@
 use Rattle.std.proofs.Common.{refl, sym, subst}
 use Rattle.race_phase.specs.Parts.{WriterParts}
-use Rattle.trace_runner.specs.Replayed.{replayed}
 use Rattle.trace_runner.specs.private.Counted.{IsCounted}
 use Rattle.trace_runner.proofs.Counted.{counted_emptied, counted_end}
 use Rattle.trace_runner.proofs.Replayed.{replayed-end, ended}
@@ -16,8 +15,7 @@ pub invariant_of-self-2 : goal.invariant_of-self-2
 invariant_of-self-2 g c =
     let i = c.self.inside in
     subst (λ (w : WriterParts). IsCounted i.opening i.deliveries w c.count_end.new.tally) (sym c.in-Ok.ensures.ok)
-    (counted_end i.opening i.deliveries c.args.end c.self.invariant
-    (c.count_end.ensures (replayed i.opening i.writer.phases i.writer.last) c.self.invariant.tally))
+    (counted_end i.opening i.deliveries c.args.end c.self.invariant c.count_end.ensures)
 
 pub returns : goal.returns
 returns g c =

@@ -2,7 +2,6 @@ use Rattle.std.proofs.Common.{List, refl, sym, subst}
 use Rattle.race_phase.specs.Parts.{WriterParts}
 use Rattle.trace_blocks.specs.declared.records.Record.{Record}
 use Rattle.race_phase.specs.declared.phases.Phase.{Phase}
-use Rattle.trace_runner.specs.Replayed.{replayed}
 use Rattle.trace_runner.specs.private.Counted.{IsCounted}
 use Rattle.trace_runner.proofs.Counted.{counted_emptied, counted_record}
 use Rattle.trace_runner.proofs.Replayed.{replayed-record, pushed}
@@ -19,8 +18,7 @@ invariant_of-self-2 g c =
     let i = c.self.inside in
     let r : Record = record { line = c.args.line; cpu = c.args.given.now.cpu; h = c.args.given.now.h; call = c.args.call } in
     subst (λ (w : WriterParts). IsCounted i.opening i.deliveries w c.count_call.new.tally) (sym c.in-Ok.ensures.ok)
-    (counted_record i.opening i.deliveries r c.self.invariant
-    (c.count_call.ensures (replayed i.opening i.writer.phases i.writer.last) c.self.invariant.tally))
+    (counted_record i.opening i.deliveries r c.self.invariant c.count_call.ensures)
 
 pub returns : goal.returns
 returns g c =
