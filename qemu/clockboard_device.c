@@ -15,9 +15,11 @@
  * The trace has each call, by record.h, and after each, in comments that begin with `# > `, what a replay prints for it. After a
  * reset and a loadvm a new file goes on: FILE.1, FILE.2 .. */
 #include "qemu/osdep.h"
+#include "qemu/config-file.h"
 #include "qemu/cutils.h"
 #include "qemu/error-report.h"
 #include "qemu/log.h"
+#include "qemu/option.h"
 #include "qemu/timer.h"
 #include "qapi/error.h"
 #include "exec/address-spaces.h"
@@ -37,12 +39,14 @@
 #include "sysemu/rtc.h"
 #include "sysemu/runstate.h"
 #include "sysemu/sysemu.h"
+#include "clockboard_words.h"
 #include "record.h"
 
 #define TYPE_CLOCKBOARD "clockboard"
 OBJECT_DECLARE_SIMPLE_TYPE(ClockboardState, CLOCKBOARD)
 
-enum { RTC_FIRMWARE = 0x0e, RTC_BYTES = 0x80, HPET_TIMERS = 3, PRIORITY = 1 };
+enum { RTC_INDEX = 0x70, RTC_DATA = 0x71, RTC_FIRMWARE = 0x0e, RTC_SHUTDOWN = 0x0f, RTC_BYTES = 0x80 };
+enum { HPET_CONFIGURATION = 0x10, HPET_TIMERS = 3, PRIORITY = 1 };
 
 struct ClockboardState {
     ISADevice parent_obj;
@@ -58,11 +62,13 @@ struct ClockboardState {
     bool recording, was_reset;
     unsigned traces;              /* how many files there were */
     uint8_t firmware[RTC_BYTES];  /* QEMU's bytes of the MC146818 as they were copied last */
-    QEMUTimer *timer;
+    uint8_t rtc_index;            /* what port 70h was written last */
+    QEMUTimer *timer, *sleep_timer;
+    bool asleep;                  /* the guest is in S3 */
     ISADevice *rtc;
     qemu_irq *gsi;
     MemoryRegion pit_ports, speaker_port, rtc_ports, hpet_page;
-    Notifier exit;
+    Notifier exit, suspend;
 
     uint32_t state_length;        /* of the saved state, while one is saved or loaded */
     uint8_t *state;
@@ -101,6 +107,17 @@ static void write_printed(ClockboardState *s, const struct clockboard_reply *rep
     s->record.lines += reply->edge_count + reply->burst_count + 1;
 }
 
+/* The virtual clock goes on in S3, but QEMU runs none of its timers then, so the timer is one of real time. */
+static void set_timer_to(ClockboardState *s, uint64_t count)
+{
+    if (s->asleep) {
+        uint64_t now = counter();
+        timer_mod_ns(s->sleep_timer, qemu_clock_get_ns(QEMU_CLOCK_REALTIME) + (count > now ? count - now : 0));
+    } else {
+        timer_mod_ns(s->timer, count);
+    }
+}
+
 static void set_timer(ClockboardState *s)
 {
     uint64_t edge = UINT64_MAX, message = UINT64_MAX, count;
@@ -112,14 +129,16 @@ static void set_timer(ClockboardState *s)
         message = UINT64_MAX;
     }
     if (clockboard_counter_of(&s->board, MIN(edge, message), &count) == CLOCKBOARD_OK && count <= INT64_MAX) {
-        timer_mod_ns(s->timer, count);
+        set_timer_to(s, count);
     } else {
         timer_del(s->timer);
+        timer_del(s->sleep_timer);
     }
 }
 
 /* What follows from a call: its edges and messages reach the interrupt controllers, and the timer is set to the next one. Several
- * messages of one burst are one interrupt to a local APIC, so one is sent. */
+ * messages of one burst are one interrupt to a local APIC, so one is sent. A rise of line 8 wakes a guest in S3, if it has
+ * set RTC_EN; QEMU sets RTC_STS then. */
 static void settle(ClockboardState *s, const struct clockboard_reply *reply, const char *read)
 {
     if (reply->answer != CLOCKBOARD_OK) {
@@ -130,7 +149,11 @@ static void settle(ClockboardState *s, const struct clockboard_reply *reply, con
         write_printed(s, reply, read);
     }
     for (uint32_t k = 0; k < reply->edge_count; k++) {
-        qemu_set_irq(s->gsi[reply->edges[k].line], reply->edges[k].up);
+        const struct clockboard_edge *edge = &reply->edges[k];
+        qemu_set_irq(s->gsi[edge->line], edge->up);
+        if (edge->line == CLOCKBOARD_LINE_RTC && edge->up) {
+            qemu_system_wakeup_request(QEMU_WAKEUP_REASON_RTC, NULL); /* refused where the guest isn't suspended */
+        }
     }
     for (uint32_t k = 0; k < reply->burst_count; k++) {
         address_space_stl_le(&address_space_memory, reply->bursts[k].address, reply->bursts[k].data, MEMTXATTRS_UNSPECIFIED,
@@ -179,6 +202,9 @@ static void port_out(ClockboardState *s, uint16_t port, uint8_t byte)
 
     CALL(s, &reply, port_write, processor(), port, byte);
     settle(s, &reply, "");
+    if (port == RTC_INDEX) {
+        s->rtc_index = byte & (RTC_BYTES - 1);
+    }
 }
 
 static uint64_t hpet_in(ClockboardState *s, uint16_t offset, uint8_t width)
@@ -224,12 +250,22 @@ static void speaker_write(void *opaque, hwaddr at, uint64_t value, unsigned size
 
 static uint64_t rtc_read(void *opaque, hwaddr at, unsigned size)
 {
-    return port_in(opaque, 0x70 + at);
+    return port_in(opaque, RTC_INDEX + at);
 }
 
+/* A write that sets the time, or lets it go on after it was set, is an event of QEMU's, RTC_CHANGE. */
 static void rtc_write(void *opaque, hwaddr at, uint64_t value, unsigned size)
 {
-    port_out(opaque, 0x70 + at, value);
+    ClockboardState *s = opaque;
+    bool is_of_time = at && clockboard_is_of_time(s->rtc_index);
+    bool may_change = is_of_time || (at && clockboard_holds_time(s->rtc_index));
+    bool stood = may_change && clockboard_time_stands(&s->board, counter());
+
+    port_out(s, RTC_INDEX + at, value);
+    if (may_change && (is_of_time || stood) && !clockboard_time_stands(&s->board, counter())) {
+        g_autofree char *path = object_get_canonical_path(OBJECT(s));
+        clockboard_time_was_set(&s->board, counter(), path);
+    }
 }
 
 static uint64_t hpet_read(void *opaque, hwaddr at, unsigned size)
@@ -260,6 +296,13 @@ static const MemoryRegionOps hpet_ops = {
     .impl = { .min_access_size = 1, .max_access_size = 8 },
     .endianness = DEVICE_LITTLE_ENDIAN,
 };
+
+/* The board of the machine. */
+
+const struct clockboard *clockboard_of_machine(void)
+{
+    return the_board ? &the_board->board : NULL;
+}
 
 /* For the watch of the interrupt controllers. */
 
@@ -339,6 +382,20 @@ static void at_exit(Notifier *exit, void *data)
     end_trace(s);
 }
 
+/* In S3 the MC146818 alone has power, so line 8 is its own, and its alarm can raise it. QEMU puts the code of a resume into byte
+ * 0Fh of its MC146818 each time; the firmware has cleared it on the board since, so the reset copies it again. */
+static void at_suspend(Notifier *suspend, void *data)
+{
+    ClockboardState *s = container_of(suspend, ClockboardState, suspend);
+
+    s->asleep = true;
+    s->firmware[RTC_SHUTDOWN] = 0;
+    if (hpet_find()) {
+        hpet_out(s, HPET_CONFIGURATION, 8, 0);
+    }
+    set_timer(s);
+}
+
 /* A reset of the PC is no access, so the trace of the board before it ends, and one of the board after it begins. At power on a
  * reset changes nothing. The MC146818's memory stays, but for bytes that QEMU has put there for the firmware since. */
 static void reset(DeviceState *dev)
@@ -347,6 +404,8 @@ static void reset(DeviceState *dev)
     struct clockboard_reply reply;
     bool goes_on = s->recording;
 
+    s->asleep = false;
+    timer_del(s->sleep_timer);
     if (s->was_reset) {
         step(s);
         write_counts(s);
@@ -361,8 +420,8 @@ static void reset(DeviceState *dev)
     for (int at = RTC_FIRMWARE; at < RTC_BYTES; at++) {
         uint8_t byte = rtc_get_memory(s->rtc, at);
         if (byte != s->firmware[at]) {
-            port_out(s, 0x70, at);
-            port_out(s, 0x71, s->firmware[at] = byte);
+            port_out(s, RTC_INDEX, at);
+            port_out(s, RTC_DATA, s->firmware[at] = byte);
         }
     }
 }
@@ -373,21 +432,25 @@ static bool power_on(ClockboardState *s, Error **errp)
     struct clockboard_setup setup = CLOCKBOARD_SETUP_INIT;
     struct clockboard_reply reply;
     struct tm tm;
+    int64_t start;
 
     s->cpus = MACHINE(qdev_get_machine())->smp.max_cpus;
     qemu_get_timedate(&tm, 0);
     setup.host_start = setup.base_ns = counter();
     setup.format = s->hpet_messages ? 5 : s->cpus > 16 ? 2 : 1;
-    setup.cpus = MIN(s->cpus, 255);
+    setup.cpus = s->cpus;
     setup.slew_ns = s->slew_ns;
     setup.pit_policy = s->pit_policy;
     setup.rtc_policy = s->rtc_policy;
     setup.hpet_policy = s->hpet_policy;
-    setup.wall_sec = mktimegm(&tm);
-    reply.answer = clockboard_setup_at(&setup, mktimegm(&tm));
-    if (reply.answer == CLOCKBOARD_OK) {
-        clockboard_power_on(&s->board, &setup, &reply);
+    start = mktimegm(&tm);
+    if (start < 0 || clockboard_setup_at(&setup, start) != CLOCKBOARD_OK) {
+        const char *base = qemu_opt_get(qemu_find_opts_singleton("rtc"), "base");
+        error_setg(errp, "clockboard: the MC146818 begins in 1970 to February 2100, and not at -rtc base=%s", base ? base : "utc");
+        return false;
     }
+    setup.wall_sec = start;
+    clockboard_power_on(&s->board, &setup, &reply);
     if (reply.answer != CLOCKBOARD_OK) {
         error_setg(errp, "clockboard: %s", clockboard_answer_text(reply.answer));
     }
@@ -422,13 +485,16 @@ static void realize(DeviceState *dev, Error **errp)
         error_setg(errp, the_board ? "clockboard: the machine has one already"
                          : !pit || !rtc ? "clockboard: the machine has no 8254 or no MC146818 of its own"
                          : "clockboard: the library isn't the header's");
-    } else if (power_on(s, errp) && (!s->trace || begin_trace(s, errp))) {
+    } else if (clockboard_takes_words(s->rtc_policy, errp) && power_on(s, errp) && (!s->trace || begin_trace(s, errp))) {
         s->rtc = ISA_DEVICE(rtc);
         s->gsi = X86_MACHINE(qdev_get_machine())->gsi;
         s->timer = timer_new_ns(QEMU_CLOCK_VIRTUAL, step, s);
+        s->sleep_timer = timer_new_ns(QEMU_CLOCK_REALTIME, step, s);
         s->state = g_malloc0(CLOCKBOARD_STATE_MAX);
         s->exit.notify = at_exit;
         qemu_add_exit_notifier(&s->exit);
+        s->suspend.notify = at_suspend;
+        qemu_register_suspend_notifier(&s->suspend);
         qemu_add_vm_change_state_handler(at_stop, s);
         map_regions(s);
         qdev_connect_gpio_out(DEVICE(pit), 0, NULL); /* QEMU's own 8254 ticks on, and moves no line */

@@ -9,6 +9,8 @@
 #include <stdbool.h>
 #include <stdint.h>
 
+struct Error;
+
 struct clockboard_watch {
     void *controller;   /* NULL where the machine has no board */
     uint32_t before[8];
@@ -26,6 +28,9 @@ void clockboard_watched_apic(struct clockboard_watch *watch);
 bool clockboard_is_there(void);
 bool clockboard_is_up(uint8_t line);
 void clockboard_line_ended(uint8_t line);
+
+/* For the command rtc-reset-reinjection: whether the board has waiting ticks, which it keeps, and then the message. */
+bool clockboard_keeps_ticks(struct Error **errp);
 
 /* In front of a function's first line. It is over whichever way the function returns. */
 #define CLOCKBOARD_WATCH(kind, controller) \

@@ -12,6 +12,7 @@ FILES = {"hw/intc/apic.c": "static void apic_eoi(State *s)\n{\n    end(s);\n}\n"
          "hw/intc/i8259.c": "void pic_intack(State *s, int irq)\n{\n    take(s, irq);\n}\n"
                             "static void pic_ioport_write(void *opaque, hwaddr at,\n    uint64_t value)\n{\n    write();\n}\n",
          "hw/intc/ioapic.c": "static void\nioapic_mem_write(void *opaque, hwaddr at)\n{\n    write();\n}\n",
+         "hw/rtc/mc146818rtc.c": "void qmp_rtc_reset_reinjection(Error **errp)\n{\n    drop();\n}\n",
          "hw/i386/meson.build": "i386_ss = ss.source_set()\n"}
 
 
@@ -36,6 +37,11 @@ class Edit(unittest.TestCase):
                            ("ioapic", "hwaddr at)\n{\n    CLOCKBOARD_WATCH(ioapic, opaque);\n")):
             self.assertIn(text, (self.tree / f"hw/intc/{name}.c").read_text())
         self.assertTrue((self.tree / "hw/i386/clockboard/device.c").exists())
+
+    def test_a_command_begins_with_its_refusal(self) -> None:
+        self.assertEqual(self.edit().returncode, 0)
+        self.assertIn("(Error **errp)\n{\n    if (clockboard_keeps_ticks(errp)) {\n        return;\n    }\n\n    drop();\n",
+                      (self.tree / "hw/rtc/mc146818rtc.c").read_text())
 
     def test_a_function_that_is_not_there_changes_no_file(self) -> None:
         place = self.tree / "hw/intc/ioapic.c"
