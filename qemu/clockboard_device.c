@@ -526,6 +526,8 @@ static int post_load(void *opaque, int version_id)
     struct clockboard_reply reply;
     Error *error = NULL;
 
+    s->asleep = false; /* QEMU 7.2 has each loaded guest run */
+    timer_del(s->sleep_timer);
     end_trace(s);
     clockboard_load(&s->board, s->state, s->state_length, &reply);
     if (reply.answer != CLOCKBOARD_OK) {
